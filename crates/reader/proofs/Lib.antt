@@ -1,0 +1,12 @@
+pub mod Counts
+pub mod Driving
+pub mod Exactly
+pub mod Judged
+pub mod Leftmost
+pub mod Parts
+pub mod Reaches
+pub mod Readings
+pub mod Records
+pub mod Runs
+pub mod Scanning
+pub mod Uniquely

@@ -1,0 +1,10 @@
+pub mod Sheet
+pub mod Symbols
+pub mod Grammar
+pub mod Faults
+pub mod Machine
+pub mod Claims
+pub mod Text
+pub mod Records
+pub mod Refusals
+pub mod Reading
