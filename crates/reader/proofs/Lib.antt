@@ -1,3 +1,4 @@
+pub mod Clears
 pub mod Counts
 pub mod Driving
 pub mod Exactly

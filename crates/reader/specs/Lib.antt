@@ -8,3 +8,4 @@ pub mod Text
 pub mod Records
 pub mod Refusals
 pub mod Reading
+pub mod Tables
