@@ -24,8 +24,8 @@ pub sweep-more : {A : Type 0} (a i : ℕ) (z : A) (xs ys : List A) → a ≤ i �
 sweep-more a i z xs ys le lt e =
     ap (λ l. set l i z) (e ∙ sym (append-assoc (take a xs) (replicate (i - a) z) (drop i xs)))
     ∙ (step xs (take a xs ++ replicate (i - a) z) (take a xs ++ replicate (i + 1 - a) z) i z lt
-        (simp (length-append, length-replicate, length-take) (omega arith))
-        (ap (λ r. take a xs ++ r) (more (i - a) (i + 1 - a) z (omega arith)) ∙ sym (append-assoc (take a xs) (replicate (i - a) z) (z ∷ [])))
+    (simp (length-append, length-replicate, length-take) (omega arith))
+    (ap (λ r. take a xs ++ r) (more (i - a) (i + 1 - a) z (omega arith)) ∙ sym (append-assoc (take a xs) (replicate (i - a) z) (z ∷ [])))
     ∙ append-assoc (take a xs) (replicate (i + 1 - a) z) (drop (i + 1) xs))
 
 pub sweep-none : {A : Type 0} (a : ℕ) (z : A) (xs : List A) → xs ≡ swept a a z xs

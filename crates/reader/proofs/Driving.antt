@@ -1,21 +1,13 @@
--- What a reader's proof asks of the machine and of the text: one lemma for each thing that can stand at a place.
--- With them a function that reads has an equation for its contract: what is judged from where it started is what is judged
--- from where it stopped, or is the refusal that it answers.
+-- What the machine does at one symbol: it refuses, or is judged by what follows.
 use mathlib.Core.Path.{_≡_, refl, sym, ap, subst, _∙_}
 use mathlib.Core.List.{List, [], _∷_, _++_}
 use Prim.Native.Nat.{ℕ, suc, _+_, _≤_, _<_}
 use native.Mathlib.Decide.{ℕ-discrete}
 use native.Mathlib.Omega.{arith}
-use lib.Dec.{T}
-use lib.ListN.{length}
-use Rattle.std.specs.Text.{asciiAlnum}
 use Rattle.reader.specs.Symbols.{Symbol, stray, PlacedSymbol, Flaw, Opens, IsLoop, separating, looping, placed}
-use Rattle.reader.specs.Text.{Blank, Mark, Means, AllAlnum, Stops, Reads, the-end, a-blank, a-mark, a-run, a-stray}
 use Rattle.reader.specs.Machine.{Expect, Step, Next, goes, stuck, next?, Look, flaw, fine, look, opens?, loop?, Begun, begun?, both?, Verdict, refused, limited, decide, judge}
 use Rattle.reader.proofs.Reaches.{same-state}
 use Rattle.reader.proofs.Judged.{same-flaw}
-use Rattle.reader.proofs.Scanning.{scanned}
-use Rattle.reader.proofs.Readings.{same-reading}
 
 module _ {e : Expect} {d : ℕ} {s : Symbol} {D S L : Type 0} (p : ℕ) (x : Look s) (t : Next e d s) (a : Dec D) (b : Dec S) (c : Dec L) (on : Expect → ℕ → Verdict) where
   decide-flaw : (n : ℕ) → Flaw s n → decide p x t a b c on ≡ refused n p
@@ -104,25 +96,3 @@ module _ (end : ℕ) (e : Expect) (d n m : ℕ) (y : PlacedSymbol) (ys : List Pl
 
         pub judge-on : (Begun e × (n ≡ 256) → ⊥) → (IsLoop (y .item) × (m ≡ 32) → ⊥) → judge end e d n m (y ∷ ys) ≡ judge end e′ d′ (n + separating (y .item)) (m + looping (y .item)) ys
         judge-on f g = goes-on ∙ limited-on (y .place) (onHere e′ d′) deepHere manyHere loopsHere flat f g
-
--- what the bytes at a place leave to be read
-abbrev pub Leaves : ℕ → Symbol → ℕ → List ℕ → List PlacedSymbol → Type 0
-Leaves p s q bs ys = (zs : List PlacedSymbol) × (ys ≡ placed p s ∷ zs) × Reads q bs zs
-
-some-reading : (p : ℕ) (bs : List ℕ) → (ys : List PlacedSymbol) × Reads p bs ys
-some-reading p bs = scanned (length bs) p bs (omega arith)
-
-pub read-end : {p : ℕ} {ys : List PlacedSymbol} → Reads p [] ys → ys ≡ []
-read-end r = same-reading r the-end refl refl
-
-pub read-blank : {p b : ℕ} {bs : List ℕ} {ys : List PlacedSymbol} → Blank b → Reads p (b ∷ bs) ys → Reads (suc p) bs ys
-read-blank {p} {b} {bs} h r = let k = some-reading (suc p) bs in subst (Reads (suc p) bs) (sym (same-reading r (a-blank h (k .1)) refl refl)) (k .1)
-
-pub read-mark : {p : ℕ} {s : Symbol} {ys : List PlacedSymbol} (m bs : List ℕ) → Mark m s → Reads p (m ++ bs) ys → Leaves p s (p + length m) bs ys
-read-mark {p} m bs h r = let k = some-reading (p + length m) bs in (k .0, same-reading r (a-mark m bs h (k .1)) refl refl, k .1)
-
-pub read-run : {p b : ℕ} {s : Symbol} {ys : List PlacedSymbol} (w bs : List ℕ) → AllAlnum (b ∷ w) → Stops bs → Means (b ∷ w) s → Reads p (b ∷ (w ++ bs)) ys → Leaves p s (p + suc (length w)) bs ys
-read-run {p} w bs a h f r = let k = some-reading (p + suc (length w)) bs in (k .0, same-reading r (a-run w bs a h f (k .1)) refl refl, k .1)
-
-pub read-stray : {p b : ℕ} {bs : List ℕ} {ys : List PlacedSymbol} → (Blank b → ⊥) → (T (asciiAlnum b) → ⊥) → ((m rest : List ℕ) (s : Symbol) → Mark m s → b ∷ bs ≡ m ++ rest → ⊥) → Reads p (b ∷ bs) ys → Leaves p stray (suc p) bs ys
-read-stray {p} {b} {bs} f g h r = let k = some-reading (suc p) bs in (k .0, same-reading r (a-stray f g h (k .1)) refl refl, k .1)

@@ -1,3 +1,6 @@
+pub mod Tokens
+pub mod Words
+pub mod Lexing
 pub mod Clears
 pub mod Counts
 pub mod Driving

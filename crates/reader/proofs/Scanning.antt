@@ -110,6 +110,14 @@ unfoldable pub register? : (w : List ℕ) → Dec (Register w)
 register? [] = no (λ h. let z : _≡_ {A = ℕ} 0 1 = cc (h .1) in omega arith)
 register? (b ∷ ds) = register-by b ds (ℕ-discrete b 120) (numeral? ds)
 
+pub is-no-word : {w : List ℕ} {s : Symbol} → (w ≡ codes "LOOP" → ⊥) → (w ≡ codes "WHILE" → ⊥) → (w ≡ codes "DO" → ⊥) → (w ≡ codes "END" → ⊥) → (Numeral w → ⊥) → (Register w → ⊥) → Word w s → ⊥
+is-no-word f g h i j k word-loop = f refl
+is-no-word f g h i j k word-while = g refl
+is-no-word f g h i j k word-do = h refl
+is-no-word f g h i j k word-end = i refl
+is-no-word f g h i j k (word-number n) = j n
+is-no-word f g h i j k (word-register {ds} n) = k (ds, refl, n)
+
 unfoldable pub meaning-by : (w : List ℕ) → Dec (w ≡ codes "LOOP") → Dec (w ≡ codes "WHILE") → Dec (w ≡ codes "DO") → Dec (w ≡ codes "END") → Dec (Numeral w) → Dec (Register w) → (s : Symbol) × Means w s
 meaning-by w (yes e) b c d n r = (LOOP, a-word (subst (λ (l : List ℕ). Word l LOOP) (sym e) word-loop))
 meaning-by w (no f) (yes e) c d n r = (WHILE, a-word (subst (λ (l : List ℕ). Word l WHILE) (sym e) word-while))
@@ -117,15 +125,7 @@ meaning-by w (no f) (no g) (yes e) d n r = (DO, a-word (subst (λ (l : List ℕ)
 meaning-by w (no f) (no g) (no h) (yes e) n r = (END, a-word (subst (λ (l : List ℕ). Word l END) (sym e) word-end))
 meaning-by w (no f) (no g) (no h) (no i) (yes n) r = (number (value w), a-word (word-number n))
 meaning-by w (no f) (no g) (no h) (no i) (no j) (yes r) = (register (value (r .0)), a-word (subst (λ (l : List ℕ). Word l (register (value (r .0)))) (sym (r .1)) (word-register (r .2))))
-meaning-by w (no f) (no g) (no h) (no i) (no j) (no k) = (strange, no-word (λ s. none f g h i j k))
-  where
-    none : {w : List ℕ} {s : Symbol} → (w ≡ codes "LOOP" → ⊥) → (w ≡ codes "WHILE" → ⊥) → (w ≡ codes "DO" → ⊥) → (w ≡ codes "END" → ⊥) → (Numeral w → ⊥) → (Register w → ⊥) → Word w s → ⊥
-    none f g h i j k word-loop = f refl
-    none f g h i j k word-while = g refl
-    none f g h i j k word-do = h refl
-    none f g h i j k word-end = i refl
-    none f g h i j k (word-number n) = j n
-    none f g h i j k (word-register {ds} n) = k (ds, refl, n)
+meaning-by w (no f) (no g) (no h) (no i) (no j) (no k) = (strange, no-word (λ s. is-no-word f g h i j k))
 
 unfoldable pub meaning : (w : List ℕ) → (s : Symbol) × Means w s
 meaning w = meaning-by w (same? w (codes "LOOP")) (same? w (codes "WHILE")) (same? w (codes "DO")) (same? w (codes "END")) (numeral? w) (register? w)

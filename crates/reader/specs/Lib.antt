@@ -9,3 +9,4 @@ pub mod Records
 pub mod Refusals
 pub mod Reading
 pub mod Tables
+pub mod Lexing

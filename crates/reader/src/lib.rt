@@ -1,2 +1,4 @@
+mod lexer;
+mod refusal;
 pub mod table;
 pub mod types;

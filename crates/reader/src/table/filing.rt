@@ -50,7 +50,11 @@ impl<'a, T: Copy> Table<'a, T> {
         ensures { λ r. ⌜ Found (now (self .entry)) index r ⌝ }
     {
         let cells: &[T] = &*self.cells;
-        if index < self.filed && index < cells.len() { Some(cells[index]) } else { None }
+        if index < self.filed && index < cells.len() {
+            Some(cells[index])
+        } else {
+            None
+        }
     }
 
     // Puts `x` in the place of the element at `index`; false where none is filed there.

@@ -8,12 +8,13 @@ pub loop-i-holds : need.loop-i-holds
 loop-i-holds g c = (refl, sweep-none (c .args .self .now .filed) (c .args .zero) (c .args .self .now .cells .now), refl, omega arith, refl)
 
 pub loop-i-again : need.loop-i-again
-loop-i-again g c =
-    ( c .loop-i .inv .0
-    , sweep-more (c .args .self .now .filed) (c .loop-i .i) (c .args .zero) (c .args .self .now .cells .now) (c .loop-i .self .cells .now) (omega arith) (c .loop-i-test .taken) (c .loop-i .inv .1)
-    , simp length-set (c .loop-i .inv .2)
-    , omega arith
-    , c .loop-i .inv .4 )
+loop-i-again g c = (
+  c .loop-i .inv .0,
+  sweep-more (c .args .self .now .filed) (c .loop-i .i) (c .args .zero) (c .args .self .now .cells .now) (c .loop-i .self .cells .now) (omega arith) (c .loop-i-test .taken) (c .loop-i .inv .1),
+  simp length-set (c .loop-i .inv .2),
+  omega arith,
+  c .loop-i .inv .4,
+)
 
 pub returns : need.returns
 returns g c = record {
