@@ -1,3 +1,4 @@
+pub mod Expecting
 pub mod Tokens
 pub mod Words
 pub mod Lexing

@@ -1,3 +1,4 @@
+mod cursor;
 mod lexer;
 mod refusal;
 pub mod table;
