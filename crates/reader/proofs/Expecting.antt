@@ -91,7 +91,8 @@ module _ (text : List ℕ) (from : ℕ) where
 
     pub begins-other : (P : Symbol → Type 0) (e : Placed Refusal) → (P (meant (x .item)) → ⊥) → e ≡ placed (x .place) OutOfOrder → Refuses P text from e
     begins-other P e f p =
-        let rest = some-reading to (drop to text) in
-        ( placed (x .place) (meant (x .item)) ∷ rest .0
-        , r .0 (rest .0) (rest .1)
-        , subst (Misfit P (length text) (placed (x .place) (meant (x .item)) ∷ rest .0)) (sym p) (is-other (r .1) f) )
+        let rest = some-reading to (drop to text) in (
+          placed (x .place) (meant (x .item)) ∷ rest .0,
+          r .0 (rest .0) (rest .1),
+          subst (Misfit P (length text) (placed (x .place) (meant (x .item)) ∷ rest .0)) (sym p) (is-other (r .1) f),
+        )

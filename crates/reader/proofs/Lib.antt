@@ -1,3 +1,4 @@
+pub mod Halting
 pub mod Expecting
 pub mod Tokens
 pub mod Words

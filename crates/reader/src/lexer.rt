@@ -218,7 +218,10 @@ fn word_token<'a>(word: &'a [u8]) -> Token<'a>
 }
 
 // The first token from `from` on; none at the text's end.
-pub(crate) fn next_token<'a>(text: &'a [u8], from: usize) -> Result<Option<Placed<Token<'a>>>, Placed<Refusal>>
+pub(crate) fn next_token<'a>(
+    text: &'a [u8],
+    from: usize,
+) -> Result<Option<Placed<Token<'a>>>, Placed<Refusal>>
     ensures { λ r. ⌜ TokenRead (now (text .entry)) from r ⌝ }
 {
     let place = skip_blanks(text, from);

@@ -72,7 +72,11 @@ impl<'a> Cursor<'a> {
         ensures text { λ r. ⌜ behind (now (self .exit) .text) ≡ behind (now (self .entry) .text) ⌝ }
     {
         match self.require() {
-            Ok(found) => if found.item == wanted { Ok(()) } else { Err(out_of_order(found.place)) },
+            Ok(found) => if found.item == wanted {
+                Ok(())
+            } else {
+                Err(out_of_order(found.place))
+            },
             Err(fault) => Err(fault),
         }
     }
@@ -119,11 +123,58 @@ impl<'a> Cursor<'a> {
             Err(fault) => Err(fault),
         }
     }
+
+    // Reads what follows the target of an assignment, and gives its record.
+    pub(crate) fn assignment(
+        &mut self,
+        target: usize,
+        end: usize,
+    ) -> Result<Statement, Placed<Refusal>>
+        ensures read { λ r. ⌜ AssignmentRead (behind (now (self .entry) .text)) (now (self .entry) .pos) target end r (now (self .exit) .pos) ⌝ }
+        ensures text { λ r. ⌜ behind (now (self .exit) .text) ≡ behind (now (self .entry) .text) ⌝ }
+    {
+        self.expect(Lexeme::Assign)?;
+        let source = self.expect_register()?;
+        let kind = self.expect_sign()?;
+        let constant = self.expect_number()?;
+        Ok(Statement {
+            kind,
+            target,
+            source,
+            constant,
+            end,
+        })
+    }
+
+    // Reads what follows the word LOOP, up to its body, and gives the register.
+    pub(crate) fn loop_head(&mut self) -> Result<usize, Placed<Refusal>>
+        ensures read { λ r. ⌜ LoopHeadRead (behind (now (self .entry) .text)) (now (self .entry) .pos) r (now (self .exit) .pos) ⌝ }
+        ensures text { λ r. ⌜ behind (now (self .exit) .text) ≡ behind (now (self .entry) .text) ⌝ }
+    {
+        let source = self.expect_register()?;
+        self.expect(Lexeme::Do)?;
+        Ok(source)
+    }
+
+    // Reads what follows the word WHILE, up to its body, and gives the register.
+    pub(crate) fn while_head(&mut self) -> Result<usize, Placed<Refusal>>
+        ensures read { λ r. ⌜ WhileHeadRead (behind (now (self .entry) .text)) (now (self .entry) .pos) r (now (self .exit) .pos) ⌝ }
+        ensures text { λ r. ⌜ behind (now (self .exit) .text) ≡ behind (now (self .entry) .text) ⌝ }
+    {
+        let source = self.expect_register()?;
+        self.expect(Lexeme::Unequal)?;
+        self.expect(Lexeme::Number(0))?;
+        self.expect(Lexeme::Do)?;
+        Ok(source)
+    }
 }
 
 // A symbol at a place where the grammar has none such.
 pub(crate) fn out_of_order(place: usize) -> Placed<Refusal>
     ensures { λ r. ⌜ r ≡ placed place OutOfOrder ⌝ }
 {
-    Placed { place, item: Refusal::OutOfOrder }
+    Placed {
+        place,
+        item: Refusal::OutOfOrder,
+    }
 }
