@@ -1,3 +1,6 @@
+pub mod Parsing
+pub mod Filing
+pub mod Overwriting
 pub mod Halting
 pub mod Expecting
 pub mod Tokens

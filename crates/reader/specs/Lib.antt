@@ -11,3 +11,4 @@ pub mod Reading
 pub mod Tables
 pub mod Lexing
 pub mod Expecting
+pub mod Parsing

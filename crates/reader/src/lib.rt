@@ -1,5 +1,6 @@
 mod cursor;
 mod lexer;
+mod parser;
 mod refusal;
 pub mod table;
 pub mod types;

@@ -1,0 +1,111 @@
+ghost use mathlib.Core.Path.{_≡_};
+ghost use mathlib.Core.List.{List, [], _∷_};
+ghost use Prim.Native.Nat.{ℕ, suc, _+_, _<_, _≤_};
+ghost use lib.ListN.{length, set};
+ghost use denote.Ref.{name};
+ghost use Rattle.reader.specs.declared.types.Refusal.the-variants.{TooDeep, TooMany};
+ghost use Rattle.reader.specs.Symbols.{Symbol, register, placed};
+ghost use Rattle.reader.specs.Machine.{Expect};
+ghost use Rattle.reader.specs.Records.{statementOf};
+ghost use Rattle.reader.specs.Parsing.{textOf, posOf, memoryOf, Kept, StatementRead, BodyRead, Opening, Block, Admitted, HeadRead};
+use super::Parser;
+use crate::cursor::Cursor;
+use crate::table::Table;
+use crate::types::Kind;
+use crate::types::Lexeme;
+use crate::types::Placed;
+use crate::types::Refusal;
+use crate::types::Statement;
+
+// The most levels, statements and LOOPs of a sheet.
+const LEVELS: usize = 8;
+
+const STATEMENTS: usize = 256;
+
+const LOOPS: usize = 32;
+
+impl<'a, 't> Parser<'a, 't> {
+    pub(crate) fn new(text: &'a [u8], records: &'t mut [Placed<Statement>]) -> Self
+        ensures text { λ r. ⌜ textOf r ≡ now (text .entry) ⌝ }
+        ensures pos { λ r. ⌜ posOf r ≡ 0 ⌝ }
+        ensures begun { λ r. ⌜ r .statements ≡ 0 ⌝ ∗ ⌜ r .loops ≡ 0 ⌝ }
+        ensures memory { λ r. ⌜ memoryOf r ≡ now (records .entry) ⌝ }
+        ensures loan { λ r. ⌜ name (r .table .cells) ≡ name (records .entry) ⌝ }
+    {
+        Parser {
+            cursor: Cursor::new(text),
+            table: Table::new(records),
+            statements: 0,
+            loops: 0,
+        }
+    }
+
+    // Files the record of one statement more, as far as memory goes; gives its index.
+    fn file(&mut self, place: usize, item: Statement) -> usize
+        requires { ⌜ now self .statements < 256 ⌝ }
+        ensures index { λ r. ⌜ r ≡ now (self .entry) .statements ⌝ }
+        ensures begun { λ _. ⌜ now (self .exit) .statements ≡ suc (now (self .entry) .statements) ⌝ }
+        ensures loops { λ _. ⌜ now (self .exit) .loops ≡ now (self .entry) .loops ⌝ }
+        ensures filed { λ _. ⌜ memoryOf (now (self .exit)) ≡ set (memoryOf (now (self .entry))) (now (self .entry) .statements) (placed place item) ⌝ }
+        ensures kept { λ _. ⌜ Kept (now (self .entry)) (now (self .exit)) ⌝ }
+        ensures pos { λ _. ⌜ posOf (now (self .exit)) ≡ posOf (now (self .entry)) ⌝ }
+    {
+        let index = self.statements;
+        let _ = self.table.file(Placed { place, item });
+        self.statements = index + 1;
+        index
+    }
+
+    // Puts the record in the place of the one at `index`, if there is memory for it.
+    fn amend(&mut self, index: usize, record: Placed<Statement>)
+        requires { ⌜ index < now self .statements ⌝ }
+        ensures begun { λ _. ⌜ now (self .exit) .statements ≡ now (self .entry) .statements ⌝ ∗ ⌜ now (self .exit) .loops ≡ now (self .entry) .loops ⌝ }
+        ensures amended { λ _. ⌜ memoryOf (now (self .exit)) ≡ set (memoryOf (now (self .entry))) index «record» ⌝ }
+        ensures kept { λ _. ⌜ Kept (now (self .entry)) (now (self .exit)) ⌝ }
+        ensures pos { λ _. ⌜ posOf (now (self .exit)) ≡ posOf (now (self .entry)) ⌝ }
+    {
+        let _ = self.table.amend(index, record);
+    }
+
+    // Counts a LOOP or WHILE that begins at that level, or tells the limit that it passes.
+    fn admit(&mut self, kind: Kind, level: usize) -> Option<Refusal>
+        requires block { ⌜ Block kind ⌝ }
+        requires level { ⌜ level ≤ 8 ⌝ }
+        ensures admitted { λ r. ⌜ Admitted level (now (self .entry) .statements) (now (self .entry) .loops) kind r (now (self .exit) .loops) ⌝ }
+        ensures begun { λ _. ⌜ now (self .exit) .statements ≡ now (self .entry) .statements ⌝ }
+        ensures memory { λ _. ⌜ memoryOf (now (self .exit)) ≡ memoryOf (now (self .entry)) ⌝ }
+        ensures kept { λ _. ⌜ Kept (now (self .entry)) (now (self .exit)) ⌝ }
+        ensures pos { λ _. ⌜ posOf (now (self .exit)) ≡ posOf (now (self .entry)) ⌝ }
+    {
+        if level >= LEVELS {
+            return Some(Refusal::TooDeep);
+        }
+        if self.statements >= STATEMENTS {
+            return Some(Refusal::TooMany);
+        }
+        match kind {
+            Kind::Loop => {
+                if self.loops >= LOOPS {
+                    return Some(Refusal::TooMany);
+                }
+                self.loops += 1;
+                None
+            }
+            _ => None,
+        }
+    }
+
+    // Reads what follows the word of a LOOP or WHILE, up to its body, and gives the register.
+    fn head(&mut self, kind: Kind) -> Result<usize, Placed<Refusal>>
+        requires { ⌜ Block kind ⌝ }
+        ensures read { λ r. ⌜ ((s : Symbol) (x : Expect) → Opening kind s x → HeadRead x kind (textOf (now (self .entry))) (posOf (now (self .entry))) r (posOf (now (self .exit)))) ⌝ }
+        ensures begun { λ _. ⌜ now (self .exit) .statements ≡ now (self .entry) .statements ⌝ ∗ ⌜ now (self .exit) .loops ≡ now (self .entry) .loops ⌝ }
+        ensures memory { λ _. ⌜ memoryOf (now (self .exit)) ≡ memoryOf (now (self .entry)) ⌝ }
+        ensures kept { λ _. ⌜ Kept (now (self .entry)) (now (self .exit)) ⌝ }
+    {
+        match kind {
+            Kind::Loop => self.cursor.loop_head(),
+            _ => self.cursor.while_head(),
+        }
+    }
+}
