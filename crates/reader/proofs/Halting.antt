@@ -22,7 +22,7 @@ pub moved : (F : List ℕ → Type 0) {t u : List ℕ} → u ≡ t → F u → F
 moved F e h = subst F e h
 
 -- where x is expected and the first symbol is none that x allows, the machine refuses
-refuses-halts : (P : Symbol → Type 0) (text : List ℕ) (from : ℕ) (x : Expect) (e : Placed Refusal) → ((s : Symbol) (d d′ : ℕ) (x′ : Expect) → Step x s d x′ d′ → P s) → ((end d : ℕ) → finish end x d ≡ refused 5 end) → Refuses P text from e → Halts text from x e
+pub refuses-halts : (P : Symbol → Type 0) (text : List ℕ) (from : ℕ) (x : Expect) (e : Placed Refusal) → ((s : Symbol) (d d′ : ℕ) (x′ : Expect) → Step x s d x′ d′ → P s) → ((end d : ℕ) → finish end x d ≡ refused 5 end) → Refuses P text from e → Halts text from x e
 unfolding judge
 refuses-halts P text from x e f g h = (h .0, h .1, λ d n m. go d n m (h .2))
   where

@@ -1,3 +1,6 @@
+pub mod Bodies
+pub mod Refusing
+pub mod Placing
 pub mod Parsing
 pub mod Filing
 pub mod Overwriting

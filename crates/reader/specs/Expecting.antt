@@ -3,6 +3,8 @@ use mathlib.Core.Path.{_≡_}
 use mathlib.Core.List.{List, [], _∷_}
 use Prim.Native.Nat.{ℕ, _≤_}
 use lib.ListN.{length, drop}
+use Rattle.std.specs.declared.option.Option.{Option}
+use Rattle.std.specs.declared.option.Option.the-variants.{Some, None}
 use Rattle.std.specs.declared.result.Result.{Result}
 use Rattle.std.specs.declared.result.Result.the-variants.{Ok, Err}
 use Rattle.reader.specs.declared.types.Placed.{Placed}
@@ -11,6 +13,7 @@ use Rattle.reader.specs.declared.types.Refusal.the-variants.{OutOfOrder}
 use Rattle.reader.specs.declared.types.Kind.{Kind}
 use Rattle.reader.specs.declared.types.Kind.the-variants as kind
 use Rattle.reader.specs.declared.types.Lexeme.{Lexeme}
+use Rattle.reader.specs.declared.types.Lexeme.the-variants as lexeme
 use Rattle.reader.specs.declared.types.Statement.{Statement}
 use Rattle.reader.specs.Symbols.{Symbol, DO, number, register, assign, unequal, plus-sign, minus-sign, PlacedSymbol, placed, Flaw}
 use Rattle.reader.specs.Text.{Reads}
@@ -71,6 +74,13 @@ IsSign s = (k : Kind) × Sign k s
 abbrev pub SignExpected : List ℕ → ℕ → Result Kind (Placed Refusal) → ℕ → Type 0
 SignExpected text from (Ok k) to = (s : Symbol) × Sign k s × Passes text from to s
 SignExpected text from (Err e) to = Refuses IsSign text from e
+
+-- whether the symbol that follows a body is the word END, in a text that ends at `end`
+abbrev pub Closed : {X : Type 0} → ℕ → Option (Placed Lexeme) → Result X (Placed Refusal) → Type 0
+Closed end (Some x) (Ok u) = x .item ≡ lexeme.End
+Closed end (Some x) (Err e) = (x .item ≡ lexeme.End → ⊥) × (e ≡ placed (x .place) OutOfOrder)
+Closed end None (Ok u) = ⊥
+Closed end None (Err e) = e ≡ placed end OutOfOrder
 
 -- what stands from `from` on, where the machine expects x, is refused so
 abbrev pub Halts : List ℕ → ℕ → Expect → Placed Refusal → Type 0

@@ -1,5 +1,7 @@
 mod reading;
 
+pub(crate) use reading::out_of_order;
+
 // A text, and the place from which reading goes on.
 pub struct Cursor<'a> {
     text: &'a [u8],

@@ -5,7 +5,7 @@ ghost use denote.Ref.{now as behind};
 ghost use Rattle.reader.specs.declared.types.Refusal.the-variants.{OutOfOrder};
 ghost use Rattle.reader.specs.Symbols.{placed};
 ghost use Rattle.reader.specs.Lexing.{LexemeRead};
-ghost use Rattle.reader.specs.Expecting.{Required, Expected, RegisterExpected, NumberExpected, SignExpected, AssignmentRead, LoopHeadRead, WhileHeadRead};
+ghost use Rattle.reader.specs.Expecting.{Required, Expected, RegisterExpected, NumberExpected, SignExpected, Closed, AssignmentRead, LoopHeadRead, WhileHeadRead};
 use super::Cursor;
 use crate::lexer::next_token;
 use crate::lexer::token_lexeme;
@@ -23,13 +23,6 @@ impl<'a> Cursor<'a> {
         ensures pos { λ r. ⌜ r .pos ≡ 0 ⌝ }
     {
         Cursor { text, pos: 0 }
-    }
-
-    // The place of the text's end.
-    pub(crate) fn end(&self) -> usize
-        ensures { λ r. ⌜ r ≡ length (behind (now (self .entry) .text)) ⌝ }
-    {
-        self.text.len()
     }
 
     // Reads the next symbol; none at the text's end.
@@ -53,7 +46,7 @@ impl<'a> Cursor<'a> {
     }
 
     // The next symbol; the text's end is out of order.
-    fn require(&mut self) -> Result<Placed<Lexeme>, Placed<Refusal>>
+    pub(crate) fn require(&mut self) -> Result<Placed<Lexeme>, Placed<Refusal>>
         ensures read { λ r. ⌜ Required (behind (now (self .entry) .text)) (now (self .entry) .pos) r (now (self .exit) .pos) ⌝ }
         ensures text { λ r. ⌜ behind (now (self .exit) .text) ≡ behind (now (self .entry) .text) ⌝ }
     {
@@ -121,6 +114,24 @@ impl<'a> Cursor<'a> {
                 _ => Err(out_of_order(found.place)),
             },
             Err(fault) => Err(fault),
+        }
+    }
+
+    // Whether what follows a body is the word END.
+    pub(crate) fn expect_end(
+        &mut self,
+        follow: Option<Placed<Lexeme>>,
+    ) -> Result<(), Placed<Refusal>>
+        ensures closed { λ r. ⌜ Closed (length (behind (now (self .entry) .text))) follow r ⌝ }
+        ensures text { λ _. ⌜ behind (now (self .exit) .text) ≡ behind (now (self .entry) .text) ⌝ }
+        ensures pos { λ _. ⌜ now (self .exit) .pos ≡ now (self .entry) .pos ⌝ }
+    {
+        match follow {
+            Some(found) => match found.item {
+                Lexeme::End => Ok(()),
+                _ => Err(out_of_order(found.place)),
+            },
+            None => Err(out_of_order(self.text.len())),
         }
     }
 

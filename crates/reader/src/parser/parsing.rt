@@ -10,6 +10,7 @@ ghost use Rattle.reader.specs.Records.{statementOf};
 ghost use Rattle.reader.specs.Parsing.{textOf, posOf, memoryOf, Kept, StatementRead, BodyRead, Opening, Block, Admitted, HeadRead};
 use super::Parser;
 use crate::cursor::Cursor;
+use crate::cursor::out_of_order;
 use crate::table::Table;
 use crate::types::Kind;
 use crate::types::Lexeme;
@@ -107,5 +108,87 @@ impl<'a, 't> Parser<'a, 't> {
             Kind::Loop => self.cursor.loop_head(),
             _ => self.cursor.while_head(),
         }
+    }
+
+    // Reads what follows the target of an assignment, and files its record.
+    fn assignment(&mut self, place: usize, target: usize) -> Result<(), Placed<Refusal>>
+        requires { ⌜ target ≤ 31 ⌝ }
+        ensures read { λ r. ⌜ ((level : ℕ) → StatementRead (placed place (register target) ∷ []) level (now (self .entry)) r (now (self .exit))) ⌝ }
+        ensures kept { λ _. ⌜ Kept (now (self .entry)) (now (self .exit)) ⌝ }
+    {
+        if self.statements >= STATEMENTS {
+            return Err(Placed {
+                place,
+                item: Refusal::TooMany,
+            });
+        }
+        let item = self.cursor.assignment(target, self.statements + 1)?;
+        self.file(place, item);
+        Ok(())
+    }
+
+    // Reads one statement at that level, and files its records.
+    fn statement(&mut self, level: usize) -> Result<(), Placed<Refusal>>
+        requires { ⌜ level ≤ 8 ⌝ }
+        ensures read { λ r. ⌜ StatementRead [] level (now (self .entry)) r (now (self .exit)) ⌝ }
+        ensures kept { λ _. ⌜ Kept (now (self .entry)) (now (self .exit)) ⌝ }
+    {
+        let first = self.cursor.require()?;
+        match first.item {
+            Lexeme::Register(target) => self.assignment(first.place, target),
+            Lexeme::Loop => self.block(Kind::Loop, first.place, level),
+            Lexeme::While => self.block(Kind::While, first.place, level),
+            _ => Err(out_of_order(first.place)),
+        }
+    }
+
+    // Reads what follows the word of a LOOP or WHILE, and files its records.
+    fn block(&mut self, kind: Kind, place: usize, level: usize) -> Result<(), Placed<Refusal>>
+        requires block { ⌜ Block kind ⌝ }
+        requires level { ⌜ level ≤ 8 ⌝ }
+        ensures read { λ r. ⌜ ((s : Symbol) (x : Expect) → Opening kind s x → StatementRead (placed place s ∷ []) level (now (self .entry)) r (now (self .exit))) ⌝ }
+        ensures kept { λ _. ⌜ Kept (now (self .entry)) (now (self .exit)) ⌝ }
+    {
+        if let Some(item) = self.admit(kind, level) {
+            return Err(Placed { place, item });
+        }
+        let source = self.head(kind)?;
+        let index = self.file(place, heading(kind, source, 0));
+        let follow = self.body(level + 1)?;
+        self.cursor.expect_end(follow)?;
+        let item = heading(kind, source, self.statements);
+        self.amend(index, Placed { place, item });
+        Ok(())
+    }
+
+    // Reads the statements of a body at that level, and files their records; gives what follows them.
+    pub(crate) fn body(&mut self, level: usize) -> Result<Option<Placed<Lexeme>>, Placed<Refusal>>
+        requires { ⌜ level ≤ 8 ⌝ }
+        ensures read { λ r. ⌜ BodyRead level (now (self .entry)) r (now (self .exit)) ⌝ }
+        ensures kept { λ _. ⌜ Kept (now (self .entry)) (now (self .exit)) ⌝ }
+    {
+        loop {
+            self.statement(level)?;
+            let Some(found) = self.cursor.next()? else {
+                return Ok(None);
+            };
+            match found.item {
+                Lexeme::Semicolon => {}
+                _ => return Ok(Some(found)),
+            }
+        }
+    }
+}
+
+// The record of a LOOP or WHILE.
+fn heading(kind: Kind, source: usize, end: usize) -> Statement
+    ensures { λ r. ⌜ r ≡ statementOf kind 0 source 0 end ⌝ }
+{
+    Statement {
+        kind,
+        target: 0,
+        source,
+        constant: 0,
+        end,
     }
 }
