@@ -1,3 +1,4 @@
+pub mod Sheets
 pub mod Bodies
 pub mod Refusing
 pub mod Placing

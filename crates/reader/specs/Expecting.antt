@@ -82,6 +82,13 @@ Closed end (Some x) (Err e) = (x .item ≡ lexeme.End → ⊥) × (e ≡ placed 
 Closed end None (Ok u) = ⊥
 Closed end None (Err e) = e ≡ placed end OutOfOrder
 
+-- whether nothing follows the whole sheet, in a text that ends at `end`
+abbrev pub Over : ℕ → Option (Placed Lexeme) → Result ℕ (Placed Refusal) → Type 0
+Over end None (Ok n) = n ≡ end
+Over end None (Err e) = ⊥
+Over end (Some x) (Ok n) = ⊥
+Over end (Some x) (Err e) = e ≡ placed (x .place) OutOfOrder
+
 -- what stands from `from` on, where the machine expects x, is refused so
 abbrev pub Halts : List ℕ → ℕ → Expect → Placed Refusal → Type 0
 Halts text from x e = (ys : List PlacedSymbol) × Reads from (drop from text) ys × ((d n m : ℕ) → judge (length text) x d n m ys ≡ refused (refusalNumber (e .item)) (e .place))

@@ -81,3 +81,15 @@ pub struct Statement {
     pub constant: u32,
     pub end: usize,
 }
+
+// What memory for records holds where it holds none.
+pub const ZERO_RECORD: Placed<Statement> = Placed {
+    place: 0,
+    item: Statement {
+        kind: Kind::Zero,
+        target: 0,
+        source: 0,
+        constant: 0,
+        end: 0,
+    },
+};

@@ -5,7 +5,7 @@ ghost use denote.Ref.{now as behind};
 ghost use Rattle.reader.specs.declared.types.Refusal.the-variants.{OutOfOrder};
 ghost use Rattle.reader.specs.Symbols.{placed};
 ghost use Rattle.reader.specs.Lexing.{LexemeRead};
-ghost use Rattle.reader.specs.Expecting.{Required, Expected, RegisterExpected, NumberExpected, SignExpected, Closed, AssignmentRead, LoopHeadRead, WhileHeadRead};
+ghost use Rattle.reader.specs.Expecting.{Required, Expected, RegisterExpected, NumberExpected, SignExpected, Closed, Over, AssignmentRead, LoopHeadRead, WhileHeadRead};
 use super::Cursor;
 use crate::lexer::next_token;
 use crate::lexer::token_lexeme;
@@ -132,6 +132,20 @@ impl<'a> Cursor<'a> {
                 _ => Err(out_of_order(found.place)),
             },
             None => Err(out_of_order(self.text.len())),
+        }
+    }
+
+    // Whether nothing follows the whole sheet; gives the place of the text's end.
+    pub(crate) fn expect_nothing(
+        &mut self,
+        follow: Option<Placed<Lexeme>>,
+    ) -> Result<usize, Placed<Refusal>>
+        ensures over { λ r. ⌜ Over (length (behind (now (self .entry) .text))) follow r ⌝ }
+        ensures text { λ _. ⌜ behind (now (self .exit) .text) ≡ behind (now (self .entry) .text) ⌝ }
+    {
+        match follow {
+            Some(found) => Err(out_of_order(found.place)),
+            None => Ok(self.text.len()),
         }
     }
 

@@ -7,11 +7,13 @@ ghost use Rattle.reader.specs.declared.types.Refusal.the-variants.{TooDeep, To
 ghost use Rattle.reader.specs.Symbols.{Symbol, register, placed};
 ghost use Rattle.reader.specs.Machine.{Expect};
 ghost use Rattle.reader.specs.Records.{statementOf};
-ghost use Rattle.reader.specs.Parsing.{textOf, posOf, memoryOf, Kept, StatementRead, BodyRead, Opening, Block, Admitted, HeadRead};
+ghost use Rattle.reader.specs.Parsing.{textOf, posOf, memoryOf, Kept, StatementRead, BodyRead, Opening, Block, Admitted, HeadRead, Fresh, SheetRead};
+use super::Counts;
 use super::Parser;
+use super::filing::amend_record;
+use super::filing::file_record;
 use crate::cursor::Cursor;
 use crate::cursor::out_of_order;
-use crate::table::Table;
 use crate::types::Kind;
 use crate::types::Lexeme;
 use crate::types::Placed;
@@ -29,51 +31,54 @@ impl<'a, 't> Parser<'a, 't> {
     pub(crate) fn new(text: &'a [u8], records: &'t mut [Placed<Statement>]) -> Self
         ensures text { λ r. ⌜ textOf r ≡ now (text .entry) ⌝ }
         ensures pos { λ r. ⌜ posOf r ≡ 0 ⌝ }
-        ensures begun { λ r. ⌜ r .statements ≡ 0 ⌝ ∗ ⌜ r .loops ≡ 0 ⌝ }
+        ensures begun { λ r. ⌜ r .counts .statements ≡ 0 ⌝ ∗ ⌜ r .counts .loops ≡ 0 ⌝ }
         ensures memory { λ r. ⌜ memoryOf r ≡ now (records .entry) ⌝ }
-        ensures loan { λ r. ⌜ name (r .table .cells) ≡ name (records .entry) ⌝ }
+        ensures loan { λ r. ⌜ name (r .records) ≡ name (records .entry) ⌝ }
     {
         Parser {
             cursor: Cursor::new(text),
-            table: Table::new(records),
-            statements: 0,
-            loops: 0,
+            records,
+            counts: Counts {
+                statements: 0,
+                loops: 0,
+            },
         }
     }
 
     // Files the record of one statement more, as far as memory goes; gives its index.
     fn file(&mut self, place: usize, item: Statement) -> usize
-        requires { ⌜ now self .statements < 256 ⌝ }
-        ensures index { λ r. ⌜ r ≡ now (self .entry) .statements ⌝ }
-        ensures begun { λ _. ⌜ now (self .exit) .statements ≡ suc (now (self .entry) .statements) ⌝ }
-        ensures loops { λ _. ⌜ now (self .exit) .loops ≡ now (self .entry) .loops ⌝ }
-        ensures filed { λ _. ⌜ memoryOf (now (self .exit)) ≡ set (memoryOf (now (self .entry))) (now (self .entry) .statements) (placed place item) ⌝ }
+        requires { ⌜ now self .counts .statements < 256 ⌝ }
+        ensures index { λ r. ⌜ r ≡ now (self .entry) .counts .statements ⌝ }
+        ensures begun { λ _. ⌜ now (self .exit) .counts .statements ≡ suc (now (self .entry) .counts .statements) ⌝ }
+        ensures loops { λ _. ⌜ now (self .exit) .counts .loops ≡ now (self .entry) .counts .loops ⌝ }
+        ensures filed { λ _. ⌜ memoryOf (now (self .exit)) ≡ set (memoryOf (now (self .entry))) (now (self .entry) .counts .statements) (placed place item) ⌝ }
         ensures kept { λ _. ⌜ Kept (now (self .entry)) (now (self .exit)) ⌝ }
         ensures pos { λ _. ⌜ posOf (now (self .exit)) ≡ posOf (now (self .entry)) ⌝ }
     {
-        let index = self.statements;
-        let _ = self.table.file(Placed { place, item });
-        self.statements = index + 1;
+        let index = self.counts.statements;
+        file_record(self.records, index, Placed { place, item });
+        self.counts.statements = index + 1;
         index
     }
 
     // Puts the record in the place of the one at `index`, if there is memory for it.
     fn amend(&mut self, index: usize, record: Placed<Statement>)
-        requires { ⌜ index < now self .statements ⌝ }
-        ensures begun { λ _. ⌜ now (self .exit) .statements ≡ now (self .entry) .statements ⌝ ∗ ⌜ now (self .exit) .loops ≡ now (self .entry) .loops ⌝ }
+        requires { ⌜ index < now self .counts .statements ⌝ }
+        ensures begun { λ _. ⌜ now (self .exit) .counts .statements ≡ now (self .entry) .counts .statements ⌝ ∗ ⌜ now (self .exit) .counts .loops ≡ now (self .entry) .counts .loops ⌝ }
         ensures amended { λ _. ⌜ memoryOf (now (self .exit)) ≡ set (memoryOf (now (self .entry))) index «record» ⌝ }
         ensures kept { λ _. ⌜ Kept (now (self .entry)) (now (self .exit)) ⌝ }
         ensures pos { λ _. ⌜ posOf (now (self .exit)) ≡ posOf (now (self .entry)) ⌝ }
     {
-        let _ = self.table.amend(index, record);
+        let filed = self.counts.statements;
+        amend_record(self.records, filed, index, record);
     }
 
     // Counts a LOOP or WHILE that begins at that level, or tells the limit that it passes.
     fn admit(&mut self, kind: Kind, level: usize) -> Option<Refusal>
         requires block { ⌜ Block kind ⌝ }
         requires level { ⌜ level ≤ 8 ⌝ }
-        ensures admitted { λ r. ⌜ Admitted level (now (self .entry) .statements) (now (self .entry) .loops) kind r (now (self .exit) .loops) ⌝ }
-        ensures begun { λ _. ⌜ now (self .exit) .statements ≡ now (self .entry) .statements ⌝ }
+        ensures admitted { λ r. ⌜ Admitted level (now (self .entry) .counts .statements) (now (self .entry) .counts .loops) kind r (now (self .exit) .counts .loops) ⌝ }
+        ensures begun { λ _. ⌜ now (self .exit) .counts .statements ≡ now (self .entry) .counts .statements ⌝ }
         ensures memory { λ _. ⌜ memoryOf (now (self .exit)) ≡ memoryOf (now (self .entry)) ⌝ }
         ensures kept { λ _. ⌜ Kept (now (self .entry)) (now (self .exit)) ⌝ }
         ensures pos { λ _. ⌜ posOf (now (self .exit)) ≡ posOf (now (self .entry)) ⌝ }
@@ -81,15 +86,15 @@ impl<'a, 't> Parser<'a, 't> {
         if level >= LEVELS {
             return Some(Refusal::TooDeep);
         }
-        if self.statements >= STATEMENTS {
+        if self.counts.statements >= STATEMENTS {
             return Some(Refusal::TooMany);
         }
         match kind {
             Kind::Loop => {
-                if self.loops >= LOOPS {
+                if self.counts.loops >= LOOPS {
                     return Some(Refusal::TooMany);
                 }
-                self.loops += 1;
+                self.counts.loops += 1;
                 None
             }
             _ => None,
@@ -100,7 +105,7 @@ impl<'a, 't> Parser<'a, 't> {
     fn head(&mut self, kind: Kind) -> Result<usize, Placed<Refusal>>
         requires { ⌜ Block kind ⌝ }
         ensures read { λ r. ⌜ ((s : Symbol) (x : Expect) → Opening kind s x → HeadRead x kind (textOf (now (self .entry))) (posOf (now (self .entry))) r (posOf (now (self .exit)))) ⌝ }
-        ensures begun { λ _. ⌜ now (self .exit) .statements ≡ now (self .entry) .statements ⌝ ∗ ⌜ now (self .exit) .loops ≡ now (self .entry) .loops ⌝ }
+        ensures begun { λ _. ⌜ now (self .exit) .counts .statements ≡ now (self .entry) .counts .statements ⌝ ∗ ⌜ now (self .exit) .counts .loops ≡ now (self .entry) .counts .loops ⌝ }
         ensures memory { λ _. ⌜ memoryOf (now (self .exit)) ≡ memoryOf (now (self .entry)) ⌝ }
         ensures kept { λ _. ⌜ Kept (now (self .entry)) (now (self .exit)) ⌝ }
     {
@@ -116,13 +121,13 @@ impl<'a, 't> Parser<'a, 't> {
         ensures read { λ r. ⌜ ((level : ℕ) → StatementRead (placed place (register target) ∷ []) level (now (self .entry)) r (now (self .exit))) ⌝ }
         ensures kept { λ _. ⌜ Kept (now (self .entry)) (now (self .exit)) ⌝ }
     {
-        if self.statements >= STATEMENTS {
+        if self.counts.statements >= STATEMENTS {
             return Err(Placed {
                 place,
                 item: Refusal::TooMany,
             });
         }
-        let item = self.cursor.assignment(target, self.statements + 1)?;
+        let item = self.cursor.assignment(target, self.counts.statements + 1)?;
         self.file(place, item);
         Ok(())
     }
@@ -156,7 +161,7 @@ impl<'a, 't> Parser<'a, 't> {
         let index = self.file(place, heading(kind, source, 0));
         let follow = self.body(level + 1)?;
         self.cursor.expect_end(follow)?;
-        let item = heading(kind, source, self.statements);
+        let item = heading(kind, source, self.counts.statements);
         self.amend(index, Placed { place, item });
         Ok(())
     }
@@ -177,6 +182,23 @@ impl<'a, 't> Parser<'a, 't> {
                 _ => return Ok(Some(found)),
             }
         }
+    }
+
+    // Reads the whole sheet, where there is memory for `room` records; gives the number of statements.
+    pub(crate) fn sheet(&mut self, room: usize) -> Result<usize, Placed<Refusal>>
+        requires { ⌜ Fresh room (now self) ⌝ }
+        ensures read { λ r. ⌜ SheetRead room (textOf (now (self .entry))) (memoryOf (now (self .entry))) r (memoryOf (now (self .exit))) ⌝ }
+        ensures kept { λ _. ⌜ Kept (now (self .entry)) (now (self .exit)) ⌝ }
+    {
+        let follow = self.body(0)?;
+        let end = self.cursor.expect_nothing(follow)?;
+        if self.counts.statements > room {
+            return Err(Placed {
+                place: end,
+                item: Refusal::TreeFull,
+            });
+        }
+        Ok(self.counts.statements)
     }
 }
 

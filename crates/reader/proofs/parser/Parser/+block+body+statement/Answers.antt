@@ -21,7 +21,7 @@ block-returns-in-Some t c =
     let a = c .args .self .now in
     let r = c .in-Some .ensures tt in
     record {
-      read = λ s x o. block-limit (textOf a) (posOf a) (c .args .level) (a .statements) (a .loops) (c .args .place) (c .in-Some .item) o (r .admitted);
+      read = λ s x o. block-limit (textOf a) (posOf a) (c .args .level) (a .counts .statements) (a .counts .loops) (c .args .place) (c .in-Some .item) o (r .admitted);
       kept = r .kept;
     }
 
@@ -35,7 +35,7 @@ block-returns-in-Break-source t c =
     let m = c .in-rest .ensures tt in
     let r = c .in-Break-source .ensures tt in
     rw (p .1, p .2) (record {
-      read = λ s x o. head-bad (textOf a) (posOf a) (c .args .level) (a .statements) (a .loops) (c .args .place) o (m .admitted) e (halts-moved (textOf a) (textOf a₁) (posOf a) (posOf a₁) x e (m .kept .text) (m .pos) (r .read s x o));
+      read = λ s x o. head-bad (textOf a) (posOf a) (c .args .level) (a .counts .statements) (a .counts .loops) (c .args .place) o (m .admitted) e (halts-moved (textOf a) (textOf a₁) (posOf a) (posOf a₁) x e (m .kept .text) (m .pos) (r .read s x o));
       kept = kept-then a a₁ (c .head .last .self) (m .kept) (r .kept);
     })
 
@@ -110,7 +110,7 @@ block-returns t c =
     let n = c .amend .ensures in
     let k = kept-then a b d (w .kept) (r .kept) in
     record {
-      read = block-done (c .args .level) (c .args .place) i (c .args .kind) a b w d (Unit {0}) (c .in-Continue-expect-end .field-0) (memoryOf z) (z .statements) (z .loops) (posOf z) (n .begun .0) (n .begun .1) (n .pos ∙ e .pos) (amended-same (memoryOf z) (memoryOf d) (c .file-index .result) (a .statements) (c .args .place) (c .heading-item .result) (statementOf (c .args .kind) 0 i 0 (d .statements)) (f .index ∙ (h .begun .0 ∙ m .begun)) (c .heading-item .ensures) (n .amended)) (c .in-Continue-follow .follow) (r .read) (e .closed);
+      read = block-done (c .args .level) (c .args .place) i (c .args .kind) a b w d (Unit {0}) (c .in-Continue-expect-end .field-0) (memoryOf z) (z .counts .statements) (z .counts .loops) (posOf z) (n .begun .0) (n .begun .1) (n .pos ∙ e .pos) (amended-same (memoryOf z) (memoryOf d) (c .file-index .result) (a .counts .statements) (c .args .place) (c .heading-item .result) (statementOf (c .args .kind) 0 i 0 (d .counts .statements)) (f .index ∙ (h .begun .0 ∙ m .begun)) (c .heading-item .ensures) (n .amended)) (c .in-Continue-follow .follow) (r .read) (e .closed);
       kept = record { text = n .kept .text ∙ (e .text ∙ k .text); room = n .kept .room ∙ k .room; loan = n .kept .loan ∙ k .loan };
     }
 
@@ -182,7 +182,7 @@ statement-returns-in-Break-first t c =
     let p = err-from-errBy (c .from-residual .result) (c .from-residual .ensures .1) in
     let r = c .in-Break-first .ensures tt in
     rw (p .1, p .2) (record {
-      read = none-begins (textOf a) (posOf a) (c .args .level) (a .statements) (a .loops) (c .in-Break-first .field-0 .0) (r .read);
+      read = none-begins (textOf a) (posOf a) (c .args .level) (a .counts .statements) (a .counts .loops) (c .in-Break-first .field-0 .0) (r .read);
       kept = record { text = r .text; room = refl; loan = refl };
     })
 
@@ -246,6 +246,6 @@ statement-returns-in-rest t c =
     let r = c .in-Continue-first .ensures tt in
     let n = c .in-rest in
     record {
-      read = other-begins (textOf a) (posOf a) (c .args .level) (a .statements) (a .loops) (c .require .last .self .pos) (c .in-Continue-first .first) (c .out-of-order .result) (r .read) (n .not-Register) (n .not-Loop) (n .not-While) (c .out-of-order .ensures);
+      read = other-begins (textOf a) (posOf a) (c .args .level) (a .counts .statements) (a .counts .loops) (c .require .last .self .pos) (c .in-Continue-first .first) (c .out-of-order .result) (r .read) (n .not-Register) (n .not-Loop) (n .not-While) (c .out-of-order .ensures);
       kept = record { text = r .text; room = refl; loan = refl };
     }

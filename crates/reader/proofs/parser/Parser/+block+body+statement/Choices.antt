@@ -19,8 +19,8 @@ abbrev pub μ-block : given.MeasureT-block
 abbrev pub Inv-body-loop-self : given.InvT-body-loop-self
 Inv-body-loop-self l =
     (us : List PlacedSymbol) × Between (textOf (l .entry .self)) (posOf (l .entry .self)) (posOf (l .self)) us
-    × Joined (length (textOf (l .entry .self))) (l .level) (l .entry .self .statements) (l .entry .self .loops) (memoryOf (l .entry .self)) us (l .self .statements) (l .self .loops) (memoryOf (l .self))
+    × Joined (length (textOf (l .entry .self))) (l .level) (l .entry .self .counts .statements) (l .entry .self .counts .loops) (memoryOf (l .entry .self)) us (l .self .counts .statements) (l .self .counts .loops) (memoryOf (l .self))
     × Kept (l .entry .self) (l .self)
 
 abbrev pub μ-body-loop-self : given.MeasureT-body-loop-self
-μ-body-loop-self l = 256 - l .self .statements
+μ-body-loop-self l = 256 - l .self .counts .statements

@@ -14,14 +14,14 @@ pub returns-then-level-ge-LEVELS : need.returns-then-level-ge-LEVELS
 returns-then-level-ge-LEVELS c = record { admitted = too-deep (omega (arith, c .pre .level)); begun = refl; memory = refl; kept = record { text = refl; room = refl; loan = refl }; pos = refl }
 
 pub returns-then-self-ge-STATEMENTS : need.returns-then-self-ge-STATEMENTS
-returns-then-self-ge-STATEMENTS c = record { admitted = too-many (omega arith) (omega (arith, c .args .self .now .few)); begun = refl; memory = refl; kept = record { text = refl; room = refl; loan = refl }; pos = refl }
+returns-then-self-ge-STATEMENTS c = record { admitted = too-many (omega arith) (omega (arith, c .args .self .now .counts .few)); begun = refl; memory = refl; kept = record { text = refl; room = refl; loan = refl }; pos = refl }
 
 pub returns-then-self-ge-LOOPS : need.returns-then-self-ge-LOOPS
 returns-then-self-ge-LOOPS c =
-    let n = c .args .self .now .statements in
-    let m = c .args .self .now .loops in
+    let n = c .args .self .now .counts .statements in
+    let m = c .args .self .now .counts .loops in
     record {
-      admitted = subst (λ (k : Kind). Admitted (c .args .level) n m k (Some TooMany) m) (sym (c .in-Loop .is)) (too-many-loops (omega arith) (omega arith) (omega (arith, c .args .self .now .looped)));
+      admitted = subst (λ (k : Kind). Admitted (c .args .level) n m k (Some TooMany) m) (sym (c .in-Loop .is)) (too-many-loops (omega arith) (omega arith) (omega (arith, c .args .self .now .counts .looped)));
       begun = refl;
       memory = refl;
       kept = record { text = refl; room = refl; loan = refl };
@@ -30,8 +30,8 @@ returns-then-self-ge-LOOPS c =
 
 pub returns-else-self-ge-LOOPS : need.returns-else-self-ge-LOOPS
 returns-else-self-ge-LOOPS c =
-    let n = c .args .self .now .statements in
-    let m = c .args .self .now .loops in
+    let n = c .args .self .now .counts .statements in
+    let m = c .args .self .now .counts .loops in
     record {
       admitted = subst (λ (k : Kind). Admitted (c .args .level) n m k None (m + 1)) (sym (c .in-Loop .is)) (subst (λ (j : ℕ). Admitted (c .args .level) n m loop None j) (sym (add-one m)) (admits-loop (omega arith) (omega arith) (omega arith)));
       begun = refl;
@@ -42,8 +42,8 @@ returns-else-self-ge-LOOPS c =
 
 pub returns-in-rest : need.returns-in-rest
 returns-in-rest c =
-    let n = c .args .self .now .statements in
-    let m = c .args .self .now .loops in
+    let n = c .args .self .now .counts .statements in
+    let m = c .args .self .now .counts .loops in
     record {
       admitted = subst (λ (k : Kind). Admitted (c .args .level) n m k None m) (sym (while-else (c .args .kind) (c .pre .block) (c .in-rest .not-Loop))) (admits-while (omega arith) (omega arith));
       begun = refl;

@@ -12,7 +12,7 @@ pub returns-then-self-ge-STATEMENTS : need.returns-then-self-ge-STATEMENTS
 returns-then-self-ge-STATEMENTS c =
     let self = c .args .self .now in
     record {
-      read = λ level. assignment-many (self .cursor .text .now) (self .cursor .pos) level (self .statements) (self .loops) (c .args .place) (c .args .target) (c .pre) (omega (arith, self .few));
+      read = λ level. assignment-many (self .cursor .text .now) (self .cursor .pos) level (self .counts .statements) (self .counts .loops) (c .args .place) (c .args .target) (c .pre) (omega (arith, self .counts .few));
       kept = record { text = refl; room = refl; loan = refl };
     }
 
@@ -22,7 +22,7 @@ returns-in-Break-item c =
     let p = err-from-errBy (c .from-residual .result) (c .from-residual .ensures .1) in
     let a = c .in-Break-item .ensures tt in
     rw (p .1, p .2) (record {
-      read = λ level. assignment-bad (self .cursor .text .now) (self .cursor .pos) level (self .statements) (self .loops) (c .args .place) (c .args .target) (c .pre) (c .in-Break-item .field-0 .0) (omega arith) (a .read);
+      read = λ level. assignment-bad (self .cursor .text .now) (self .cursor .pos) level (self .counts .statements) (self .counts .loops) (c .args .place) (c .args .target) (c .pre) (c .in-Break-item .field-0 .0) (omega arith) (a .read);
       kept = record { text = a .text; room = refl; loan = refl };
     })
 
@@ -33,7 +33,7 @@ returns c =
     let f = c .file .ensures in
     let z = c .file .last .self in
     record {
-      read = λ level. assignment-read (length (self .cursor .text .now)) level (self .statements) (self .loops) (c .args .place) (z .statements) (z .loops) (z .cursor .pos) (self .table .cells .now) (z .table .cells .now)
-          (omega arith) (c .pre) (add-one (self .statements)) (a .read) (f .filed) (f .begun) (f .loops) (f .pos);
+      read = λ level. assignment-read (length (self .cursor .text .now)) level (self .counts .statements) (self .counts .loops) (c .args .place) (z .counts .statements) (z .counts .loops) (z .cursor .pos) (self .records .now) (z .records .now)
+          (omega arith) (c .pre) (add-one (self .counts .statements)) (a .read) (f .filed) (f .begun) (f .loops) (f .pos);
       kept = record { text = _∙_ {a = z .cursor .text .now} (f .kept .text) (a .text); room = f .kept .room; loan = f .kept .loan };
     }
