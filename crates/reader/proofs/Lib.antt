@@ -14,3 +14,5 @@ pub mod Records
 pub mod Runs
 pub mod Scanning
 pub mod Uniquely
+pub mod Spans
+pub mod Checking

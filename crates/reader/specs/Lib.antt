@@ -10,3 +10,4 @@ pub mod Refusals
 pub mod Reading
 pub mod Tables
 pub mod Lexing
+pub mod Checks

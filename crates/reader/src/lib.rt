@@ -1,4 +1,8 @@
+mod check;
 mod lexer;
 mod refusal;
 pub mod table;
 pub mod types;
+
+pub use check::is_sheet;
+pub use check::next_sibling;
