@@ -270,6 +270,13 @@ spans-span rs a b (while i q p) h =
 pub spans-one : (rs : Recs) (a b : ℕ) (p q : Sheet) → Spans rs a b p → Spans rs a b q → p ≡ q
 spans-one rs a b p q v w = sym (spans-span rs a b p v) ∙ spans-span rs a b q w
 
+pub span-spans : (rs : Recs) (a b : ℕ) (p : Sheet) → Spans rs a b p → Spans rs a b (span rs a b)
+span-spans rs a b p h = subst (λ (q : Sheet). Spans rs a b q) (sym (spans-span rs a b p h)) h
+
+pub span-more : (rs : Recs) (a b : ℕ) (p : Sheet) → a < b → Spans rs a b p
+    → span rs a b ≡ sheetOf (at rs a .kind) (at rs a) (span rs (suc a) (at rs a .end)) (span rs (at rs a .end) b)
+span-more rs a b p lt h = let g = begins rs a b p (some-of rs a b p h lt) h in span-at rs a b lt (g .present) (g .forward)
+
 -- A span that begins within the records ends within them.
 pub spans-within : (rs : Recs) (a b : ℕ) (p : Sheet) → a ≤ length rs → Spans rs a b p → b ≤ length rs
 spans-within rs a b done le h = omega (arith, h)
@@ -287,6 +294,13 @@ sheet-length rs h = length-same rs (h .sheet) (h .same)
 pub sheet-spans : (rs : Recs) (h : IsSheet rs) → Spans rs 0 (length rs) (h .sheet)
 sheet-spans rs h = spans-all rs (h .sheet) (h .same)
 
+pub sheet-span : (rs : Recs) (h : IsSheet rs) → span rs 0 (length rs) ≡ h .sheet
+sheet-span rs h = spans-span rs 0 (length rs) (h .sheet) (sheet-spans rs h)
+
+-- Records are those of one sheet only.
+pub sheet-one : (rs : Recs) (h g : IsSheet rs) → h .sheet ≡ g .sheet
+sheet-one rs h g = sym (sheet-span rs h) ∙ sheet-span rs g
+
 pub sheet-few : (rs : Recs) → IsSheet rs → length rs ≤ 256
 sheet-few rs h = omega (arith, sheet-length rs h, h .within .few)
 
@@ -296,7 +310,6 @@ sheet-some rs h = some-more rs 0 (length rs) (h .sheet) (h .some) (sheet-spans r
 -- The next-sibling question finds the next statement of the body.
 follows-by : (rs : Recs) (i e : ℕ) (p : Sheet) (r : Option ℕ) → r ≡ sibling rs i e → Begins rs i e p → Follows rs e p r
 follows-by rs i e p r q h =
-    let n = at rs i .end in
     ⊎-elim
     (λ (lt : at rs i .end < e).
     let s : r ≡ option.Some (at rs i .end) = q ∙ rw (lt-ltb i (length rs) (h .present), lt-ltb (at rs i .end) e lt) refl in
