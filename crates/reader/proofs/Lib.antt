@@ -16,3 +16,4 @@ pub mod Scanning
 pub mod Uniquely
 pub mod Spans
 pub mod Checking
+pub mod Printing

@@ -11,3 +11,7 @@ pub mod Reading
 pub mod Tables
 pub mod Lexing
 pub mod Checks
+pub mod Printed
+pub mod Printing
+pub mod PrintClaims
+pub mod Pages

@@ -1,0 +1,35 @@
+-- A page while it is written: what it holds, and how many bytes were put on it, those past its end included.
+use mathlib.Core.List.{List, [], _∷_, _++_}
+use Prim.Native.Nat.{ℕ, zero, suc}
+use lib.ListN.{set}
+use denote.Ref.{now}
+use Rattle.reader.specs.declared.types.Lexeme.{Lexeme}
+use Rattle.reader.specs.Symbols.{Symbol}
+use Rattle.reader.specs.Lexing.{meant}
+use Rattle.reader.specs.Printed.{bytesOf, gap}
+
+pub record Page : Type 0 where
+  pub memory : List ℕ
+  pub written : ℕ
+
+abbrev pub pageOf : List ℕ → ℕ → Page
+pageOf m n = record { memory = m; written = n }
+
+-- the bytes come next; one past the page's end is counted and not stored
+abbrev pub putBytes : List ℕ → Page → Page
+putBytes [] g = g
+putBytes (b ∷ bs) g = putBytes bs (pageOf (set (g .memory) (g .written) b) (suc (g .written)))
+
+-- what stands before a symbol behind n bytes
+abbrev pub gapAfter : ℕ → Symbol → List ℕ
+gapAfter zero s = []
+gapAfter (suc n) s = gap s
+
+-- the symbols come next
+abbrev pub putSymbols : List Symbol → Page → Page
+putSymbols [] g = g
+putSymbols (s ∷ xs) g = putSymbols xs (putBytes (gapAfter (g .written) s ++ bytesOf s) g)
+
+abbrev pub meanings : List Lexeme → List Symbol
+meanings [] = []
+meanings (l ∷ ls) = meant l ∷ meanings ls
