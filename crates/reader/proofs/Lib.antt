@@ -17,3 +17,5 @@ pub mod Uniquely
 pub mod Spans
 pub mod Checking
 pub mod Printing
+pub mod Digits
+pub mod Pages

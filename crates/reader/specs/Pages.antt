@@ -4,6 +4,7 @@ use Prim.Native.Nat.{ℕ, zero, suc}
 use lib.ListN.{set}
 use denote.Ref.{now}
 use Rattle.reader.specs.declared.types.Lexeme.{Lexeme}
+use Rattle.reader.specs.declared.writer.Writer.{Writer}
 use Rattle.reader.specs.Symbols.{Symbol}
 use Rattle.reader.specs.Lexing.{meant}
 use Rattle.reader.specs.Printed.{bytesOf, gap}
@@ -33,3 +34,6 @@ putSymbols (s ∷ xs) g = putSymbols xs (putBytes (gapAfter (g .written) s ++ by
 abbrev pub meanings : List Lexeme → List Symbol
 meanings [] = []
 meanings (l ∷ ls) = meant l ∷ meanings ls
+
+abbrev pub onPage : Writer → Page
+onPage w = pageOf (now (w .page)) (w .written)

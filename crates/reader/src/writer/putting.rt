@@ -1,0 +1,60 @@
+ghost use mathlib.Core.Path.{_≡_};
+ghost use mathlib.Core.List.{List, [], _∷_};
+ghost use Prim.Native.Nat.{ℕ, _+_, _*_, _<_, _≤_};
+ghost use lib.ListN.{length, drop};
+ghost use Rattle.std.specs.Written.{decimal};
+ghost use Rattle.reader.specs.Lexing.{meant};
+ghost use Rattle.reader.specs.Pages.{onPage, putBytes, putSymbols, meanings};
+use super::Writer;
+use crate::types::Lexeme;
+
+// Writes the digits of `n` in base ten to the end of `digits`, and answers the index of the first.
+fn write_digits(n: usize, digits: &mut [u8; 20]) -> usize
+    ensures within { λ r. ⌜ r ≤ 20 ⌝ }
+    ensures digits { λ r. ⌜ drop r (now (digits .exit)) ≡ decimal n ⌝ }
+{
+    let mut rest = n;
+    let mut start = 20;
+    loop {
+        start -= 1;
+        digits[start] = b'0' + (rest % 10) as u8;
+        rest /= 10;
+        if rest == 0 {
+            return start;
+        }
+    }
+}
+
+impl<'a> Writer<'a> {
+    // Puts one byte.
+    fn byte(&mut self, b: u8)
+        requires { ⌜ now self .written < 65536 ⌝ }
+        ensures { λ _. ⌜ onPage (now (self .exit)) ≡ putBytes (b ∷ []) (onPage (now (self .entry))) ⌝ }
+    {
+        if self.written < self.page.len() {
+            self.page[self.written] = b;
+        }
+        self.written += 1;
+    }
+
+    // Puts bytes.
+    fn bytes(&mut self, text: &[u8])
+        requires { ⌜ now self .written + length (now text) ≤ 65536 ⌝ }
+        ensures { λ _. ⌜ onPage (now (self .exit)) ≡ putBytes (now (text .entry)) (onPage (now (self .entry))) ⌝ }
+    {
+        for b in text {
+            self.byte(*b);
+        }
+    }
+
+    // Puts a number in base ten.
+    fn number(&mut self, n: usize)
+        requires { ⌜ now self .written + 20 ≤ 65536 ⌝ }
+        ensures put { λ _. ⌜ onPage (now (self .exit)) ≡ putBytes (decimal n) (onPage (now (self .entry))) ⌝ }
+        ensures short { λ _. ⌜ now (self .exit) .written ≤ now (self .entry) .written + 20 ⌝ }
+    {
+        let mut digits = [0; 20];
+        let start = write_digits(n, &mut digits);
+        self.bytes(&digits[start..]);
+    }
+}
