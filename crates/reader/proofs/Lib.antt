@@ -19,3 +19,4 @@ pub mod Checking
 pub mod Printing
 pub mod Digits
 pub mod Pages
+pub mod Statements

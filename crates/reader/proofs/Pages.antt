@@ -44,3 +44,19 @@ bytes-all xs i g h le e = sym (at-drop-all (λ (l : List ℕ). putBytes l g) xs 
 pub bytes-room : (xs : List ℕ) (i : ℕ) (g h : Page) → i < length xs → putBytes (drop i xs) g ≡ putBytes xs h → h .written + length xs ≤ 65536 → g .written < 65536
 bytes-room xs i g h lt e le =
     omega (arith, put-count (drop i xs) g, put-count xs h, ap (λ (p : Page). p .written) e, length-drop i xs)
+
+-- The scan of the tokens.
+pub tokens-more : (ls : List Lexeme) (i : ℕ) (f g h k : Page) → i < length ls → putSymbols (meanings (drop i ls)) f ≡ h
+    → g ≡ putBytes (gapAfter (f .written) (meant (getD ls i lexeme.Loop))) f → k ≡ putBytes (bytesOf (meant (getD ls i lexeme.Loop))) g
+    → putSymbols (meanings (drop (i + 1) ls)) k ≡ h
+tokens-more ls i f g h k lt e p q =
+    let s = meant (getD ls i lexeme.Loop) in
+    ap (putSymbols (meanings (drop (i + 1) ls))) (q ∙ ap (putBytes (bytesOf s)) p ∙ sym (put-append (gapAfter (f .written) s) (bytesOf s) f))
+    ∙ sym (at-drop-more (λ (l : List Lexeme). putSymbols (meanings l) f) ls i lexeme.Loop lt) ∙ e
+
+pub tokens-all : (ls : List Lexeme) (i : ℕ) (g h : Page) → length ls ≤ i → putSymbols (meanings (drop i ls)) g ≡ h → g ≡ h
+tokens-all ls i g h le e = sym (at-drop-all (λ (l : List Lexeme). putSymbols (meanings l) g) ls i le) ∙ e
+
+pub symbols-append : (xs ys : List Symbol) (g : Page) → putSymbols (xs ++ ys) g ≡ putSymbols ys (putSymbols xs g)
+symbols-append [] ys g = refl
+symbols-append (s ∷ xs) ys g = symbols-append xs ys (putBytes (gapAfter (g .written) s ++ bytesOf s) g)

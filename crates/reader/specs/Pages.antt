@@ -5,7 +5,11 @@ use lib.ListN.{set}
 use denote.Ref.{now}
 use Rattle.reader.specs.declared.types.Lexeme.{Lexeme}
 use Rattle.reader.specs.declared.writer.Writer.{Writer}
+use Rattle.reader.specs.declared.types.Placed.{Placed}
+use Rattle.reader.specs.declared.types.Statement.{Statement}
+use Rattle.reader.specs.Sheet.{Sheet, done}
 use Rattle.reader.specs.Symbols.{Symbol}
+use Rattle.reader.specs.Checks.{at, span, sheetOf}
 use Rattle.reader.specs.Lexing.{meant}
 use Rattle.reader.specs.Printed.{bytesOf, gap}
 
@@ -37,3 +41,11 @@ meanings (l ∷ ls) = meant l ∷ meanings ls
 
 abbrev pub onPage : Writer → Page
 onPage w = pageOf (now (w .page)) (w .written)
+
+-- the statement of record i, with its body
+abbrev pub firstStatement : List (Placed Statement) → ℕ → Sheet
+firstStatement rs i = sheetOf (at rs i .kind) (at rs i) (span rs (suc i) (at rs i .end)) done
+
+-- the index behind the statement of record i and its body
+abbrev pub endOf : List (Placed Statement) → ℕ → ℕ
+endOf rs i = at rs i .end
