@@ -20,3 +20,4 @@ pub mod Printing
 pub mod Digits
 pub mod Pages
 pub mod Statements
+pub mod Prints

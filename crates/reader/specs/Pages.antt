@@ -1,8 +1,8 @@
--- A page while it is written: what it holds, and how many bytes were put on it, those past its end included.
+-- A page while it is written.
 use mathlib.Core.List.{List, [], _∷_, _++_}
 use Prim.Native.Nat.{ℕ, zero, suc}
 use lib.ListN.{set}
-use denote.Ref.{now}
+use denote.Ref.{now, name}
 use Rattle.reader.specs.declared.types.Lexeme.{Lexeme}
 use Rattle.reader.specs.declared.writer.Writer.{Writer}
 use Rattle.reader.specs.declared.types.Placed.{Placed}
@@ -13,17 +13,19 @@ use Rattle.reader.specs.Checks.{at, span, sheetOf}
 use Rattle.reader.specs.Lexing.{meant}
 use Rattle.reader.specs.Printed.{bytesOf, gap}
 
+-- what the page holds, how many bytes were put on it, those past its end included, and which memory it is
 pub record Page : Type 0 where
   pub memory : List ℕ
   pub written : ℕ
+  pub lent : ℕ
 
-abbrev pub pageOf : List ℕ → ℕ → Page
-pageOf m n = record { memory = m; written = n }
+abbrev pub pageOf : List ℕ → ℕ → ℕ → Page
+pageOf m n l = record { memory = m; written = n; lent = l }
 
 -- the bytes come next; one past the page's end is counted and not stored
 abbrev pub putBytes : List ℕ → Page → Page
 putBytes [] g = g
-putBytes (b ∷ bs) g = putBytes bs (pageOf (set (g .memory) (g .written) b) (suc (g .written)))
+putBytes (b ∷ bs) g = putBytes bs (pageOf (set (g .memory) (g .written) b) (suc (g .written)) (g .lent))
 
 -- what stands before a symbol behind n bytes
 abbrev pub gapAfter : ℕ → Symbol → List ℕ
@@ -40,7 +42,7 @@ meanings [] = []
 meanings (l ∷ ls) = meant l ∷ meanings ls
 
 abbrev pub onPage : Writer → Page
-onPage w = pageOf (now (w .page)) (w .written)
+onPage w = pageOf (now (w .page)) (w .written) (name (w .page))
 
 -- the statement of record i, with its body
 abbrev pub firstStatement : List (Placed Statement) → ℕ → Sheet

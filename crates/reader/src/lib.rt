@@ -1,5 +1,6 @@
 mod check;
 mod lexer;
+mod printer;
 mod refusal;
 pub mod table;
 pub mod types;
@@ -7,3 +8,6 @@ mod writer;
 
 pub use check::is_sheet;
 pub use check::next_sibling;
+pub use printer::print;
+pub use printer::print_is_unique;
+pub use printer::printed_sheet_reads_back;

@@ -1,5 +1,5 @@
 mod putting;
-mod sheets;
+pub mod sheets;
 
 // A page that is written from the front. Bytes past its end are counted and not stored.
 #[derive(Drop)]

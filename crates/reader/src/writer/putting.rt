@@ -28,6 +28,15 @@ fn write_digits(n: usize, digits: &mut [u8; 20]) -> usize
 }
 
 impl<'a> Writer<'a> {
+    // Ends the writing, and answers how many bytes were put.
+    pub fn finish(self) -> usize
+        ensures count { λ r. ⌜ r ≡ self .entry .written ⌝ }
+        ensures page { λ _. ⌜ now (self .exit .0) ≡ now (self .entry .page) ⌝ }
+    {
+        let Writer { page: _, written } = self;
+        written
+    }
+
     // Puts one byte.
     fn byte(&mut self, b: u8)
         requires { ⌜ now self .written < 65536 ⌝ }

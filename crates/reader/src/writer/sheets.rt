@@ -1,9 +1,9 @@
 ghost use mathlib.Core.Path.{_≡_};
-ghost use mathlib.Core.List.{List, [], _∷_};
+ghost use mathlib.Core.List.{List, [], _∷_, _++_};
 ghost use Prim.Native.Nat.{ℕ, suc, _+_, _-_, _*_, _<_, _≤_};
-ghost use lib.ListN.{length};
-ghost use Rattle.reader.specs.Checks.{Body, IsStatement, span};
-ghost use Rattle.reader.specs.Printed.{spelling};
+ghost use lib.ListN.{length, drop};
+ghost use Rattle.reader.specs.Checks.{IsSheet, Body, IsStatement, span};
+ghost use Rattle.reader.specs.Printed.{spelling, printed};
 ghost use Rattle.reader.specs.Pages.{onPage, putSymbols, firstStatement, endOf};
 use super::Writer;
 use crate::check::next_sibling;
@@ -11,6 +11,17 @@ use crate::types::Kind;
 use crate::types::Lexeme;
 use crate::types::Placed;
 use crate::types::Statement;
+
+// Prints the sheet of the records on the page, as far as it goes, and answers how many bytes the sheet has in print.
+pub fn write_sheet(records: &[Placed<Statement>], page: &mut [u8]) -> usize
+    requires { ⌜ IsSheet (now records) ⌝ }
+    ensures length { λ r. ⌜ ((h : IsSheet (now (records .entry))) → r ≡ length (printed (h .sheet))) ⌝ }
+    ensures page { λ _. ⌜ ((h : IsSheet (now (records .entry))) → length (printed (h .sheet)) ≤ length (now (page .entry)) → now (page .exit) ≡ printed (h .sheet) ++ drop (length (printed (h .sheet))) (now (page .entry))) ⌝ }
+{
+    let mut writer = Writer { page, written: 0 };
+    writer.body(records, 0, records.len());
+    writer.finish()
+}
 
 impl<'a> Writer<'a> {
     // Prints the statement of record `index`, in a body that ends before `to`.
@@ -53,7 +64,7 @@ impl<'a> Writer<'a> {
 
     // Prints the statements of the records from `from` up to `to`, with a semicolon between two of them. It goes as deep
     // as LOOPs and WHILEs are nested.
-    pub fn body(&mut self, records: &[Placed<Statement>], from: usize, to: usize)
+    fn body(&mut self, records: &[Placed<Statement>], from: usize, to: usize)
         requires order { ⌜ from < to ⌝ }
         requires within { ⌜ to ≤ length (now records) ⌝ }
         requires sound { ⌜ Body (now records) from to 0 ⌝ }
