@@ -5,20 +5,24 @@ use Prim.Native.Nat.{ℕ, _+_, _-_, _≤_, _<_}
 use native.Mathlib.Omega.{arith}
 use lib.ListN.{length, take, drop}
 use lib.Seq.{take-at}
+use Rattle.std.specs.Written.{digits}
 use Rattle.std.specs.declared.result.Result.{Result}
 use Rattle.std.specs.declared.result.Result.the-variants.{Ok, Err}
+use Rattle.reader.specs.declared.types.Placed.{Placed}
 use Rattle.reader.specs.declared.types.Refusal.{Refusal}
 use Rattle.reader.specs.declared.types.Statement.{Statement}
-use Rattle.reader.specs.Sheet.{Sheet, done, plus, minus, loop, while, Some, size}
-use Rattle.reader.specs.Symbols.{LOOP, WHILE, DO, END, register, number, assign, unequal, plus-sign, minus-sign}
+use Rattle.reader.specs.Sheet.{Sheet, done, plus, minus, loop, while, then, Some, Whole, size}
+use Rattle.reader.specs.Symbols.{Symbol, PlacedSymbol, heads, LOOP, WHILE, DO, END, register, number, assign, unequal, plus-sign, minus-sign}
 use Rattle.reader.specs.Records.{records, withPlaces, cleared}
-use Rattle.reader.specs.Reading.{ReadAnswers}
+use Rattle.reader.specs.Grammar.{Spells, adds, subtracts, sequence, loops, whiles}
+use Rattle.reader.specs.Reading.{Sheeted, ReadAnswers, accepted, overlong, faulty, tree-full}
 use Rattle.reader.specs.Checks.{IsSheet, items, span, Body}
 use Rattle.reader.specs.Printed.{andThen, spelling, textOf, printed}
 use Rattle.reader.specs.Printing.{PrintAnswers, wrote, no-sheet, page-full, ReadsBack, PrintReads}
-use Rattle.reader.specs.PrintClaims.{PrintIsUnique}
+use Rattle.reader.specs.PrintClaims.{PrintIsUnique, ReadSheetPrints, ExamplePrints}
 use Rattle.reader.specs.Pages.{Page, pageOf, putBytes, putSymbols}
-use Rattle.reader.proofs.Spans.{Recs, sheet-length, sheet-span, sheet-one, sheet-few, sheet-some}
+use Rattle.reader.proofs.Records.{counted}
+use Rattle.reader.proofs.Spans.{Recs, length-same, sheet-length, sheet-span, sheet-one, sheet-few, sheet-some}
 use Rattle.reader.proofs.Checking.{sheet-body}
 use Rattle.reader.proofs.Pages.{put-text, put-count, put-front, put-lent}
 use Rattle.reader.proofs.Printing.{round-trip}
@@ -90,3 +94,70 @@ print-one rs page a b k l (no-sheet n) (page-full h lt) = absurd (n h)
 print-one rs page a b k l (page-full h lt) (wrote g le) = absurd (omega (arith, same-length rs h g))
 print-one rs page a b k l (page-full h lt) (no-sheet n) = absurd (n h)
 print-one rs page a b k l (page-full h lt) (page-full g lt′) = (refl, refl)
+
+-- A spelled sheet is not empty, nor is a body in it.
+some-then : (p q : Sheet) → Some p → Some (then p q)
+some-then done q h = absurd h
+some-then (plus i j c p) q h = tt
+some-then (minus i j c p) q h = tt
+some-then (loop i b p) q h = tt
+some-then (while i b p) q h = tt
+
+some-spelled : {xs : List Symbol} {p : Sheet} → Spells xs p → Some p
+some-spelled adds = tt
+some-spelled subtracts = tt
+some-spelled (sequence {p = p} {q = q} s t) = some-then p q (some-spelled s)
+some-spelled (loops s) = tt
+some-spelled (whiles s) = tt
+
+whole-then : (p q : Sheet) → Whole p → Whole q → Whole (then p q)
+whole-then done q h k = k
+whole-then (plus i j c p) q h k = whole-then p q h k
+whole-then (minus i j c p) q h k = whole-then p q h k
+whole-then (loop i b p) q h k = (h .0, h .1, whole-then p q (h .2) k)
+whole-then (while i b p) q h k = (h .0, h .1, whole-then p q (h .2) k)
+
+whole-spelled : {xs : List Symbol} {p : Sheet} → Spells xs p → Whole p
+whole-spelled adds = tt
+whole-spelled subtracts = tt
+whole-spelled (sequence {p = p} {q = q} s t) = whole-then p q (whole-spelled s) (whole-spelled t)
+whole-spelled (loops s) = (some-spelled s, whole-spelled s, tt)
+whole-spelled (whiles s) = (some-spelled s, whole-spelled s, tt)
+
+-- Places change no item.
+items-places : (ps : List ℕ) (ss : List Statement) → length ps ≡ length ss → items (withPlaces ps ss) ≡ ss
+items-places [] [] e = refl
+items-places [] (s ∷ ss) e = absurd (omega arith)
+items-places (p ∷ ps) [] e = absurd (omega arith)
+items-places (p ∷ ps) (s ∷ ss) e = ap (λ (l : List Statement). s ∷ l) (items-places ps ss (omega arith))
+
+read-sheet : (ys : List PlacedSymbol) (p : Sheet) (rest : Recs) → Sheeted ys p → IsSheet (take (size p) (withPlaces (heads ys) (records p) ++ rest))
+read-sheet ys p rest h =
+    let c = counted ys p (h .spells) in
+    let rs = withPlaces (heads ys) (records p) in
+    let e : items (withPlaces (heads ys) (records p)) ≡ records p = items-places (heads ys) (records p) (c .0 ∙ sym (c .1)) in
+    let n : length (withPlaces (heads ys) (records p)) ≡ size p = length-same rs p e in
+    record {
+      sheet = p;
+      some = some-spelled (h .spells);
+      whole = whole-spelled (h .spells);
+      within = h .within;
+      same = ap items (take-at rs rest (size p) n) ∙ e;
+    }
+
+abbrev Sound : Result ℕ (Placed Refusal) → Recs → Type 0
+Sound (Ok n) memory = IsSheet (take n memory)
+Sound (Err e) memory = Unit {0}
+
+sound : {text : List ℕ} {room : ℕ} {a : Result ℕ (Placed Refusal)} {memory : Recs} → ReadAnswers text room a memory → Sound a memory
+sound {room = room} (accepted {ys} {p} l s k) = read-sheet ys p (cleared (room - size p)) s
+sound (overlong h) = tt
+sound (faulty l f) = tt
+sound (tree-full l s k) = tt
+
+pub read-prints : ReadSheetPrints
+read-prints text room n memory h = sound h
+
+pub example : ExamplePrints
+unfolding digits
+example = refl

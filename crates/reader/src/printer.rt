@@ -1,10 +1,10 @@
 ghost use Rattle.reader.specs.Printing.{PrintAnswers, PrintReads};
-ghost use Rattle.reader.specs.PrintClaims.{PrintedSheetReadsBack, PrintIsUnique};
+ghost use Rattle.reader.specs.PrintClaims.{PrintedSheetReadsBack, PrintIsUnique, ReadSheetPrints, ExamplePrints};
 use crate::check::is_sheet;
 use crate::types::Placed;
 use crate::types::Refusal;
 use crate::types::Statement;
-use crate::writer::sheets::write_sheet;
+use crate::writer::write_sheet;
 
 // Prints the sheet of the records at the front of the page, and answers how many bytes it has. Records that are those of
 // no sheet within the limits, and a page that is too short, are refused; the page is then as it was.
@@ -33,6 +33,20 @@ pub fn printed_sheet_reads_back() -> u8
 // A print has at most one answer.
 pub fn print_is_unique() -> u8
     ensures { λ _. ⌜ PrintIsUnique ⌝ }
+{
+    0
+}
+
+// The records of every text that is read can be printed.
+pub fn read_sheet_prints() -> u8
+    ensures { λ _. ⌜ ReadSheetPrints ⌝ }
+{
+    0
+}
+
+// The printed form of the worked example.
+pub fn example_prints() -> u8
+    ensures { λ _. ⌜ ExamplePrints ⌝ }
 {
     0
 }

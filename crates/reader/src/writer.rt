@@ -1,5 +1,7 @@
 mod putting;
-pub mod sheets;
+mod sheets;
+
+pub use sheets::write_sheet;
 
 // A page that is written from the front. Bytes past its end are counted and not stored.
 #[derive(Drop)]

@@ -1,6 +1,6 @@
 ghost use mathlib.Core.Path.{_≡_};
-ghost use mathlib.Core.List.{List, [], _∷_};
-ghost use Prim.Native.Nat.{ℕ, _+_, _*_, _<_, _≤_};
+ghost use mathlib.Core.List.{[], _∷_};
+ghost use Prim.Native.Nat.{_+_, _*_, _<_, _≤_};
 ghost use lib.ListN.{length, drop};
 ghost use Rattle.std.specs.Written.{decimal};
 ghost use Rattle.reader.specs.Lexing.{meant};
@@ -104,7 +104,7 @@ impl<'a> Writer<'a> {
         }
     }
 
-    // Puts tokens.
+    // Puts tokens, each behind its space.
     pub fn tokens(&mut self, tokens: &[Lexeme])
         requires { ⌜ now self .written + 22 * length (now tokens) ≤ 65536 ⌝ }
         ensures put { λ _. ⌜ onPage (now (self .exit)) ≡ putSymbols (meanings (now (tokens .entry))) (onPage (now (self .entry))) ⌝ }

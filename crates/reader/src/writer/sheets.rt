@@ -1,10 +1,9 @@
 ghost use mathlib.Core.Path.{_≡_};
-ghost use mathlib.Core.List.{List, [], _∷_, _++_};
-ghost use Prim.Native.Nat.{ℕ, suc, _+_, _-_, _*_, _<_, _≤_};
-ghost use lib.ListN.{length, drop};
+ghost use Prim.Native.Nat.{_+_, _-_, _*_, _<_, _≤_};
+ghost use lib.ListN.{length};
 ghost use Rattle.reader.specs.Checks.{IsSheet, Body, IsStatement, span};
-ghost use Rattle.reader.specs.Printed.{spelling, printed};
-ghost use Rattle.reader.specs.Pages.{onPage, putSymbols, firstStatement, endOf};
+ghost use Rattle.reader.specs.Printed.{spelling};
+ghost use Rattle.reader.specs.Pages.{onPage, putSymbols, firstStatement, endOf, SheetWritten};
 use super::Writer;
 use crate::check::next_sibling;
 use crate::types::Kind;
@@ -15,8 +14,7 @@ use crate::types::Statement;
 // Prints the sheet of the records on the page, as far as it goes, and answers how many bytes the sheet has in print.
 pub fn write_sheet(records: &[Placed<Statement>], page: &mut [u8]) -> usize
     requires { ⌜ IsSheet (now records) ⌝ }
-    ensures length { λ r. ⌜ ((h : IsSheet (now (records .entry))) → r ≡ length (printed (h .sheet))) ⌝ }
-    ensures page { λ _. ⌜ ((h : IsSheet (now (records .entry))) → length (printed (h .sheet)) ≤ length (now (page .entry)) → now (page .exit) ≡ printed (h .sheet) ++ drop (length (printed (h .sheet))) (now (page .entry))) ⌝ }
+    ensures { λ r. ⌜ SheetWritten (now (records .entry)) (now (page .entry)) r (now (page .exit)) ⌝ }
 {
     let mut writer = Writer { page, written: 0 };
     writer.body(records, 0, records.len());

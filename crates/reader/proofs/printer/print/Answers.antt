@@ -12,7 +12,7 @@ returns-then-not-is-sheet c =
 pub returns-then-page-length : need.returns-then-page-length
 returns-then-page-length c =
     let h = c .is-sheet .ensures .0 (c .if-not-is-sheet .left) in
-    record { answer = page-full h (omega (arith, c .if-page-length .taken, c .write-sheet-length .ensures .length h)); reads-back = tt }
+    record { answer = page-full h (omega (arith, c .if-page-length .taken, c .write-sheet-length .ensures .count h)); reads-back = tt }
 
 pub returns : need.returns
 returns c =
@@ -20,6 +20,6 @@ returns c =
     let m = c .args .page .now in
     let n = c .write-sheet-length .result in
     let h = c .is-sheet .ensures .0 (c .if-not-is-sheet .left) in
-    let e = c .write-sheet-length .ensures .length h in
-    let q = c .write-sheet .ensures .page h (omega (arith, e, c .if-page-length .left)) in
+    let e = c .write-sheet-length .ensures .count h in
+    let q = c .write-sheet .ensures .front h (omega (arith, e, c .if-page-length .left)) in
     record { answer = wrote-as rs m n (c .write-sheet .last .page) h e (c .if-page-length .left) q; reads-back = reads-as rs m n (c .write-sheet .last .page) h e q }

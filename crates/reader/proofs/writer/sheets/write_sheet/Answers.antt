@@ -18,8 +18,8 @@ returns c =
     let rs = c .args .records .now in
     let m = c .args .page .now in
     record {
-      length = λ h. c .finish .ensures .count ∙ sheet-written rs h m _ (onPage (c .body .last .self)) (c .body .ensures .put);
-      page = λ h le.
+      count = λ h. c .finish .ensures .count ∙ sheet-written rs h m _ (onPage (c .body .last .self)) (c .body .ensures .put);
+      front = λ h le.
           let n = sheet-lent rs h m _ (onPage (c .body .last .self)) (c .body .ensures .put) in
           let e = c .finish .ensures .page ∙ sheet-memory rs h m _ (onPage (c .body .last .self)) le (c .body .ensures .put) in
           search needs;
