@@ -1,11 +1,11 @@
 -- Bytes and symbols put on a page, one after another.
 use mathlib.Core.Path.{_≡_, refl, sym, _∙_, ap}
-use mathlib.Core.List.{List, [], _∷_, _++_, append-assoc, append-nil}
-use Prim.Native.Nat.{ℕ, zero, suc, _+_, _*_, _≤_, _<_}
+use mathlib.Core.List.{List, [], _∷_, _++_, append-assoc}
+use Prim.Native.Nat.{ℕ, zero, suc, _+_, _≤_, _<_}
 use native.Mathlib.Omega.{arith}
-use native.Mathlib.Nat.{add-zero, add-suc}
+use native.Mathlib.Nat.{add-zero}
 use native.Mathlib.Numerals.{add-one}
-use lib.ListN.{length, getD, drop, set, length-append, length-drop, length-set, take}
+use lib.ListN.{length, getD, drop, set, length-append, length-drop}
 use lib.Seq.{set-at}
 use Rattle.std.proofs.shelf.Lists.{set-past, at-drop-more, at-drop-all}
 use Rattle.reader.specs.declared.types.Lexeme.{Lexeme}
@@ -29,10 +29,6 @@ put-append (b ∷ xs) ys g = put-append xs ys (pageOf (set (g .memory) (g .writt
 pub put-count : (xs : List ℕ) (g : Page) → putBytes xs g .written ≡ g .written + length xs
 put-count [] g = sym (add-zero (g .written))
 put-count (b ∷ xs) g = put-count xs (pageOf (set (g .memory) (g .written) b) (suc (g .written)) (g .lent)) ∙ omega arith
-
-pub put-length : (xs : List ℕ) (g : Page) → length (putBytes xs g .memory) ≡ length (g .memory)
-put-length [] g = refl
-put-length (b ∷ xs) g = put-length xs (pageOf (set (g .memory) (g .written) b) (suc (g .written)) (g .lent)) ∙ length-set (g .memory) (g .written) b
 
 -- The scan of the bytes.
 pub bytes-more : (xs : List ℕ) (i : ℕ) (g h k : Page) → i < length xs → putBytes (drop i xs) g ≡ h → k ≡ putBytes (getD xs i 0 ∷ []) g → putBytes (drop (i + 1) xs) k ≡ h

@@ -1,5 +1,5 @@
 -- The printed form of a sheet is read back.
-use mathlib.Core.Path.{_≡_, refl, sym, ap, subst, _∙_}
+use mathlib.Core.Path.{_≡_, refl, sym, ap, subst}
 use mathlib.Core.Bool.{Bool, true, false, _&&_, _||_}
 use mathlib.Core.List.{List, [], _∷_, _++_, append-nil, append-assoc}
 use Prim.Native.Nat.{ℕ, zero, suc, _+_, _*_, _^_, _≤_, _<_}
@@ -15,9 +15,9 @@ use Rattle.std.proofs.shelf.Decimals.{decimal-digit, decimal-some, first-decima
 use Rattle.reader.specs.Sheet.{Sheet, done, plus, minus, loop, while, then, Some, Whole, Fit, size, Within}
 use Rattle.reader.specs.Symbols.{Symbol, LOOP, WHILE, DO, END, number, register, assign, unequal, plus-sign, minus-sign, semicolon, stray, strange, PlacedSymbol, placed, symbols, heads, Flaw, stray-byte, strange-word, total}
 use Rattle.reader.specs.Grammar.{Spells, adds, subtracts, sequence, loops, whiles}
-use Rattle.reader.specs.Text.{Blank, space, Mark, mark-assign, mark-unequal, mark-plus, mark-minus, mark-semicolon, Numeral, just-zero, some-digits, readOn, value, Word, word-loop, word-while, word-do, word-end, word-number, word-register, Means, a-word, AllAlnum, Stops, Reads, the-end, a-blank, a-mark, a-run}
+use Rattle.reader.specs.Text.{space, mark-assign, mark-unequal, mark-plus, mark-minus, mark-semicolon, Numeral, just-zero, some-digits, readOn, value, word-loop, word-while, word-do, word-end, word-number, word-register, a-word, AllAlnum, Stops, Reads, the-end, a-blank, a-mark, a-run}
 use Rattle.reader.specs.Printed.{andThen, spelling, bytesOf, gap, textOn, textOf, printed}
-use Rattle.reader.specs.Reading.{Lexed, Sheeted, ReadAnswers, accepted}
+use Rattle.reader.specs.Reading.{accepted}
 use Rattle.reader.specs.PrintClaims.{PrintedSheetReadsBack}
 use Rattle.reader.proofs.Reaches.{total-append}
 use Rattle.reader.proofs.Judged.{AllFine}

@@ -1,7 +1,7 @@
 -- What a print answers.
 use mathlib.Core.Path.{_≡_, refl, sym, _∙_, ap, subst}
 use mathlib.Core.List.{List, [], _∷_, _++_}
-use Prim.Native.Nat.{ℕ, _+_, _-_, _≤_, _<_}
+use Prim.Native.Nat.{ℕ, _-_, _≤_}
 use native.Mathlib.Omega.{arith}
 use lib.ListN.{length, take, drop}
 use lib.Seq.{take-at}
@@ -16,14 +16,13 @@ use Rattle.reader.specs.Symbols.{Symbol, PlacedSymbol, heads, LOOP, WHILE, DO,
 use Rattle.reader.specs.Records.{records, withPlaces, cleared}
 use Rattle.reader.specs.Grammar.{Spells, adds, subtracts, sequence, loops, whiles}
 use Rattle.reader.specs.Reading.{Sheeted, ReadAnswers, accepted, overlong, faulty, tree-full}
-use Rattle.reader.specs.Checks.{IsSheet, items, span, Body}
+use Rattle.reader.specs.Checks.{IsSheet, items, span}
 use Rattle.reader.specs.Printed.{andThen, spelling, textOf, printed}
 use Rattle.reader.specs.Printing.{PrintAnswers, wrote, no-sheet, page-full, ReadsBack, PrintReads}
 use Rattle.reader.specs.PrintClaims.{PrintIsUnique, ReadSheetPrints, ExamplePrints}
 use Rattle.reader.specs.Pages.{Page, pageOf, putBytes, putSymbols}
 use Rattle.reader.proofs.Records.{counted}
-use Rattle.reader.proofs.Spans.{Recs, length-same, sheet-length, sheet-span, sheet-one, sheet-few, sheet-some}
-use Rattle.reader.proofs.Checking.{sheet-body}
+use Rattle.reader.proofs.Spans.{Recs, length-same, sheet-length, sheet-span, sheet-one}
 use Rattle.reader.proofs.Pages.{put-text, put-count, put-front, put-lent}
 use Rattle.reader.proofs.Printing.{round-trip}
 

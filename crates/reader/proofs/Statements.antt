@@ -1,26 +1,23 @@
 -- The symbols of a body, statement by statement.
 use mathlib.Core.Path.{_≡_, refl, sym, _∙_, ap, subst}
-use mathlib.Core.Logic.{_⊎_, inl, inr, ⊎-elim}
-use mathlib.Core.Bool.{true, false, cond}
-use mathlib.Core.List.{List, [], _∷_, _++_, append-assoc, append-nil}
-use Prim.Native.Nat.{ℕ, zero, suc, _+_, _≤_, _<_}
+use mathlib.Core.Logic.{⊎-elim}
+use mathlib.Core.List.{List, [], _∷_, _++_, append-assoc}
+use Prim.Native.Nat.{ℕ, suc, _+_, _≤_, _<_}
 use native.Mathlib.Omega.{arith}
 use native.Mathlib.Numerals.{add-one}
-use lib.Dec.{ltb}
 use lib.ListN.{length}
 use Rattle.std.proofs.shelf.Tests.{cases-lt, lt-ltb, le-ltb}
-use Rattle.std.specs.declared.option.Option.{Option}
 use Rattle.std.specs.declared.option.Option.the-variants as option
 use Rattle.reader.specs.declared.types.Kind.{Kind}
 use Rattle.reader.specs.declared.types.Kind.the-variants.{Zero, Plus, Minus, Loop, While}
 use Rattle.reader.specs.declared.types.Statement.{Statement}
 use Rattle.reader.specs.Sheet.{Sheet, done, plus, minus, loop, while, Some}
-use Rattle.reader.specs.Symbols.{Symbol, LOOP, WHILE, DO, END, number, register, assign, unequal, plus-sign, minus-sign, semicolon}
-use Rattle.reader.specs.Checks.{at, Spans, sheetOf, span, sibling, Begins, Body, IsStatement, Headed}
+use Rattle.reader.specs.Symbols.{Symbol, LOOP, WHILE, DO, END, number, register, unequal, semicolon}
+use Rattle.reader.specs.Checks.{at, sheetOf, span, sibling, Body, IsStatement}
 use Rattle.reader.specs.Printed.{andThen, spelling}
 use Rattle.reader.specs.Pages.{Page, putSymbols, firstStatement, endOf}
 use Rattle.reader.proofs.Spans.{Recs, begins, some-of, span-none, span-more, span-spans}
-use Rattle.reader.proofs.Checking.{forward, body-of, headed-of, body-less}
+use Rattle.reader.proofs.Checking.{forward, body-less}
 use Rattle.reader.proofs.Pages.{symbols-append}
 
 -- a semicolon and the symbols of the rest, unless nothing rests
@@ -116,12 +113,6 @@ pub put-while : (rs : Recs) (i : ℕ) (f g h k : Page) → at rs i .kind ≡ Whi
     → h ≡ putSymbols (spelling (span rs (i + 1) (endOf rs i))) g → k ≡ putSymbols (END ∷ []) h → k ≡ putSymbols (spelling (firstStatement rs i)) f
 put-while rs i f g h k e p q r =
     put-plain rs i While f k e (put-block (WHILE ∷ register (at rs i .source) ∷ unequal ∷ number 0 ∷ DO ∷ []) rs i f g h k p q r)
-
--- The body of a LOOP or WHILE.
-pub inner : (rs : Recs) (i to : ℕ) → (at rs i .kind ≡ Loop) ⊎ (at rs i .kind ≡ While) → IsStatement rs i to 0 → Body rs (i + 1) (endOf rs i) 0
-inner rs i to o h =
-    let b = body-of rs i to 0 o h in
-    record { sheet = b .sheet; spans = b .spans; whole = b .whole; fit = b .fit; shallow = omega (arith, b .shallow) }
 
 -- The first statement of a body, and the body behind it.
 pub record First (rs : Recs) (a b : ℕ) : Type 0 where

@@ -1,10 +1,10 @@
-use mathlib.Core.Path.{_≡_, refl, sym, _∙_}
+use mathlib.Core.Path.{refl, sym, _∙_}
 use mathlib.Core.Logic.{inl, inr}
 use Prim.Native.Nat.{_≤_, _<_}
 use native.Mathlib.Omega.{arith}
 use borrow.Author.Needs.{needs}
 use Rattle.reader.specs.Pages.{onPage, endOf}
-use Rattle.reader.proofs.Statements.{first-of, turn, put-turn, put-first, put-last, sibling-none, put-loop, put-while, inner}
+use Rattle.reader.proofs.Statements.{first-of, turn, put-turn, put-first, put-last, sibling-none, put-loop, put-while}
 use Rattle.reader.proofs.Checking.{headed-of}
 use Rattle.reader.proofs.writer.Writer.+body+statement.Needs as need
 

@@ -1,7 +1,7 @@
-use mathlib.Core.Path.{_≡_, sym, _∙_}
+use mathlib.Core.Path.{_∙_}
 use native.Mathlib.Omega.{arith}
 use borrow.Author.Needs.{needs}
-use denote.Ref.{now, name}
+use denote.Ref.{now}
 use Rattle.reader.specs.Pages.{onPage}
 use Rattle.reader.proofs.Spans.{sheet-few, sheet-some}
 use Rattle.reader.proofs.Checking.{sheet-body}
