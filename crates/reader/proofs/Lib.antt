@@ -23,3 +23,10 @@ pub mod Records
 pub mod Runs
 pub mod Scanning
 pub mod Uniquely
+pub mod Spans
+pub mod Checking
+pub mod Printing
+pub mod Digits
+pub mod Pages
+pub mod Statements
+pub mod Prints

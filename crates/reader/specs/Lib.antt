@@ -12,3 +12,8 @@ pub mod Tables
 pub mod Lexing
 pub mod Expecting
 pub mod Parsing
+pub mod Checks
+pub mod Printed
+pub mod Printing
+pub mod PrintClaims
+pub mod Pages
