@@ -26,20 +26,6 @@ impl<'a, T: Copy> Table<'a, T> {
         Table { cells, filed }
     }
 
-    // How many elements are filed.
-    pub fn len(&self) -> usize
-        ensures { λ r. ⌜ r ≡ count (now (self .entry)) ⌝ }
-    {
-        self.filed
-    }
-
-    // How many elements there is memory for.
-    pub fn room(&self) -> usize
-        ensures { λ r. ⌜ r ≡ length (memory (now (self .entry))) ⌝ }
-    {
-        self.cells.len()
-    }
-
     // Files `x` behind the others and answers its index; None where the memory is full.
     pub fn file(&mut self, x: T) -> Option<usize>
         ensures filed { λ r. ⌜ Filed x (now (self .entry)) r (now (self .exit)) ⌝ }
