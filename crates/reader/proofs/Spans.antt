@@ -19,6 +19,7 @@ use Rattle.reader.specs.declared.types.Statement.{Statement}
 use Rattle.reader.specs.Sheet.{Sheet, done, plus, minus, loop, while, Some, size}
 use Rattle.reader.specs.Records.{kindNumber, statementOf, recordsFrom, records, zeroRecord}
 use Rattle.reader.specs.Checks.{items, at, Spans, inside, behind, sheetOf, spanIn, span, Begins, IsSheet, sibling, Follows}
+use Rattle.reader.specs.PrintClaims.{NextSiblingLeadsOn}
 use Rattle.reader.proofs.Records.{length-records}
 
 abbrev pub Recs : Type 0
@@ -308,16 +309,16 @@ pub sheet-some : (rs : Recs) → IsSheet rs → 0 < length rs
 sheet-some rs h = some-more rs 0 (length rs) (h .sheet) (h .some) (sheet-spans rs h)
 
 -- The next-sibling question finds the next statement of the body.
-follows-by : (rs : Recs) (i e : ℕ) (p : Sheet) (r : Option ℕ) → r ≡ sibling rs i e → Begins rs i e p → Follows rs e p r
-follows-by rs i e p r q h =
+following : (rs : Recs) (i e : ℕ) (p : Sheet) → Begins rs i e p → Follows rs e p (sibling rs i e)
+following rs i e p h =
     ⊎-elim
     (λ (lt : at rs i .end < e).
-    let s : r ≡ option.Some (at rs i .end) = q ∙ rw (lt-ltb i (length rs) (h .present), lt-ltb (at rs i .end) e lt) refl in
+    let s : sibling rs i e ≡ option.Some (at rs i .end) = rw (lt-ltb i (length rs) (h .present), lt-ltb (at rs i .end) e lt) refl in
     subst (λ (x : Option ℕ). Follows rs e p x) (sym s) (some-of rs (at rs i .end) e (behind p) (h .rest) lt, h .rest))
     (λ (le : e ≤ at rs i .end).
-    let s : r ≡ option.None = q ∙ rw (lt-ltb i (length rs) (h .present), le-ltb (at rs i .end) e le) refl in
+    let s : sibling rs i e ≡ option.None = rw (lt-ltb i (length rs) (h .present), le-ltb (at rs i .end) e le) refl in
     subst (λ (x : Option ℕ). Follows rs e p x) (sym s) (none-of rs (at rs i .end) e (behind p) (h .rest) le))
     (cases-lt (at rs i .end) e)
 
-pub follows : (rs : Recs) (i e : ℕ) (r : Option ℕ) → r ≡ sibling rs i e → (p : Sheet) → Some p → Spans rs i e p → Follows rs e p r
-follows rs i e r q p o h = follows-by rs i e p r q (begins rs i e p o h)
+pub leads-on : NextSiblingLeadsOn
+leads-on rs i e p o h = following rs i e p (begins rs i e p o h)

@@ -13,7 +13,7 @@ use Rattle.reader.specs.Sheet.{Sheet, done, plus, minus, loop, while, Some, Wh
 use Rattle.reader.specs.Records.{records, withPlaces, cleared}
 use Rattle.reader.specs.Reading.{ReadAnswers}
 use Rattle.reader.specs.Printed.{printed}
-use Rattle.reader.specs.Checks.{IsSheet}
+use Rattle.reader.specs.Checks.{IsSheet, Spans, Follows, sibling}
 use Rattle.reader.specs.Printing.{PrintAnswers}
 
 -- the printed form of a sheet within the limits is never overlong, and a read of it gives the sheet's records, places aside, wherever there is room for them
@@ -23,6 +23,11 @@ PrintedSheetReadsBack =
     → (length (printed p) ≤ 16384)
     × ((places : List ℕ) × (length places ≡ size p)
     × ((room : ℕ) → size p ≤ room → ReadAnswers (printed p) room (Ok (size p)) (withPlaces places (records p) ++ cleared (room - size p))))
+
+-- the next-sibling question leads along a body: asked of its statement at an index, it tells where the statements behind that one begin, and that there are none
+abbrev pub NextSiblingLeadsOn : Type 0
+NextSiblingLeadsOn =
+    (rs : List (Placed Statement)) (i e : ℕ) (p : Sheet) → Some p → Spans rs i e p → Follows rs e p (sibling rs i e)
 
 -- a print has at most one answer
 abbrev pub PrintIsUnique : Type 0

@@ -1,5 +1,4 @@
 -- A cue sheet: a list of statements, where LOOP and WHILE hold a sheet of their own, the body.
---
 use Prim.Native.Nat.{ℕ, zero, suc, _+_, max, _≤_}
 
 pub data Sheet : Type 0 where

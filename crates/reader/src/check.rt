@@ -2,8 +2,7 @@ ghost use mathlib.Core.Path.{_≡_};
 ghost use Prim.Native.Nat.{_<_, _≤_};
 ghost use lib.ListN.{length};
 ghost use Rattle.std.specs.Orderings.{Decides};
-ghost use Rattle.reader.specs.Sheet.{Sheet, Some as NotEmpty};
-ghost use Rattle.reader.specs.Checks.{IsSheet, Spans, Follows, sibling, Assigned, Headed, Body, IsStatement, loopNumber, loopsIn};
+ghost use Rattle.reader.specs.Checks.{IsSheet, sibling, Assigned, Headed, Body, IsStatement, loopNumber, loopsIn};
 use crate::types::Kind;
 use crate::types::Placed;
 use crate::types::Statement;
@@ -11,7 +10,6 @@ use crate::types::Statement;
 // The index of the next statement of the same body, which ends before `body_end`; none after the last one.
 pub fn next_sibling(records: &[Placed<Statement>], index: usize, body_end: usize) -> Option<usize>
     ensures answer { λ r. ⌜ r ≡ sibling (now (records .entry)) index «body_end» ⌝ }
-    ensures follows { λ r. ⌜ ((p : Sheet) → NotEmpty p → Spans (now (records .entry)) index «body_end» p → Follows (now (records .entry)) «body_end» p r) ⌝ }
 {
     if index >= records.len() {
         return None;

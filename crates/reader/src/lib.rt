@@ -15,6 +15,7 @@ mod writer;
 pub use check::is_sheet;
 pub use check::next_sibling;
 pub use printer::example_prints;
+pub use printer::next_sibling_leads_on;
 pub use printer::print;
 pub use printer::print_is_unique;
 pub use printer::printed_sheet_reads_back;

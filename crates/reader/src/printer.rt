@@ -1,5 +1,5 @@
 ghost use Rattle.reader.specs.Printing.{PrintAnswers, PrintReads};
-ghost use Rattle.reader.specs.PrintClaims.{PrintedSheetReadsBack, PrintIsUnique, ReadSheetPrints, ExamplePrints};
+ghost use Rattle.reader.specs.PrintClaims.{NextSiblingLeadsOn, PrintedSheetReadsBack, PrintIsUnique, ReadSheetPrints, ExamplePrints};
 use crate::check::is_sheet;
 use crate::types::Placed;
 use crate::types::Refusal;
@@ -21,6 +21,13 @@ pub fn print(records: &[Placed<Statement>], page: &mut [u8]) -> Result<usize, Re
     }
     let _ = write_sheet(records, page);
     Ok(length)
+}
+
+// The next-sibling question leads along a body.
+pub fn next_sibling_leads_on() -> u8
+    ensures { λ _. ⌜ NextSiblingLeadsOn ⌝ }
+{
+    0
 }
 
 // The printed form of a sheet is read back.
