@@ -1,3 +1,5 @@
+pub mod Exampled
+pub mod OneAnswer
 pub mod Sheets
 pub mod Bodies
 pub mod Refusing

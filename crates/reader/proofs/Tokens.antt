@@ -149,3 +149,7 @@ module _ (text : List ℕ) (place : ℕ) where
 
 pub token-found : (text : List ℕ) (from : ℕ) (found : Option (Placed Token)) (t : Placed Token) → found ≡ Some t → TokenRead text from (Ok found) → TokenRead text from (Ok (Some t))
 token-found text from found t e r = subst (λ (f : Option (Placed Token)). TokenRead text from (Ok f)) e r
+
+-- a part of the text has the bytes between its ends
+pub part-length : (text : List ℕ) (a e : ℕ) → a ≤ e → e ≤ length text → length (take (e - a) (drop a text)) ≡ e - a
+part-length text a e h k = simp (length-take, length-drop) (omega arith)

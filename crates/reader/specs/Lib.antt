@@ -17,3 +17,4 @@ pub mod Printed
 pub mod Printing
 pub mod PrintClaims
 pub mod Pages
+pub mod Words

@@ -1,6 +1,7 @@
 // The reader of cue sheets: text to statement records, and records to text.
 mod check;
 mod cursor;
+pub mod laws;
 mod lexer;
 mod parser;
 mod printer;
@@ -8,6 +9,7 @@ mod reading;
 mod refusal;
 pub mod table;
 pub mod types;
+mod word;
 mod writer;
 
 pub use check::is_sheet;
@@ -18,3 +20,4 @@ pub use printer::print_is_unique;
 pub use printer::printed_sheet_reads_back;
 pub use printer::read_sheet_prints;
 pub use reading::read;
+pub use word::word_at;

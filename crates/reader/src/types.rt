@@ -45,6 +45,14 @@ pub enum Token<'a> {
     Semicolon,
 }
 
+// A word of the text: its part of the text, and where that part lies. An empty one has length 0.
+#[derive(Clone, Copy, Debug)]
+pub struct Word<'a> {
+    pub start: usize,
+    pub length: usize,
+    pub bytes: &'a [u8],
+}
+
 // What a token says, apart from the bytes that say it.
 #[derive(Clone, Copy, Debug, PartialEq, Eq)]
 pub enum Lexeme {
