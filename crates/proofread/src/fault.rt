@@ -82,7 +82,7 @@ fn hint(refusal: Refusal) -> &'static str {
             "The mark stands below the first byte too many.",
         ),
         Refusal::StrayByte => concat!(
-            "No word begins with this byte, and no mark: the marks are := != + - and ;\n",
+            "No word or mark begins here. The marks are := != + - and ; with no blank inside.\n",
             "Only the space and the line feed are blanks. Tabs and carriage returns are not.",
         ),
         Refusal::StrangeWord => concat!(

@@ -1,9 +1,9 @@
 -- The levels around a record, counted one record after another.
-use mathlib.Core.Path.{_≡_, _∙_, ap}
+use mathlib.Core.Path.{_≡_, ap}
 use mathlib.Core.List.{List}
 use Prim.Native.Nat.{ℕ, suc, _+_, _≤_, _<_}
 use native.Mathlib.Omega.{arith}
-use lib.ListN.{length, getD, drop}
+use lib.ListN.{length, drop}
 use Rattle.std.proofs.shelf.Lists.{at-drop-more, at-drop-all}
 use Rattle.reader.specs.declared.types.Placed.{Placed}
 use Rattle.reader.specs.declared.types.Statement.{Statement}
@@ -11,7 +11,7 @@ use Rattle.reader.specs.Checks.{at}
 use Rattle.reader.specs.Records.{zeroRecord}
 use Rattle.survey.specs.Counts.{levelNumber, levelsFrom}
 
-abbrev pub Recs : Type 0
+abbrev Recs : Type 0
 Recs = List (Placed Statement)
 
 pub levels-more : (rs : Recs) (i j n m : ℕ) → i < length rs → m ≡ levelNumber (at rs i) i j → n + levelsFrom i (drop i rs) j ≡ levelsFrom 0 rs j → (n + m) + levelsFrom (i + 1) (drop (i + 1) rs) j ≡ levelsFrom 0 rs j

@@ -10,6 +10,9 @@ use Rattle.reader.specs.declared.types.Placed.{Placed}
 use Rattle.reader.specs.declared.types.Kind.{Kind}
 use Rattle.reader.specs.declared.types.Kind.the-variants.{Zero, Plus, Minus, Loop, While}
 use Rattle.reader.specs.declared.types.Statement.{Statement}
+use Rattle.reader.specs.Sheet.{Sheet, loops, depth}
+use Rattle.reader.specs.Records.{records}
+use Rattle.reader.specs.Checks.{items}
 
 -- 1 for a LOOP or WHILE, 0 for others
 abbrev pub blockNumber : Kind → ℕ
@@ -36,3 +39,11 @@ levelsAround rs j = levelsFrom 0 rs j
 pub record Deepest (rs : List (Placed Statement)) (d : ℕ) : Type 0 where
   pub bound : (j : ℕ) → j < length rs → levelsAround rs j ≤ d
   pub reached : (d ≡ 0) ⊎ ((j : ℕ) × (j < length rs) × (levelsAround rs j ≡ d))
+
+-- where the records are those of a sheet, places aside, n is how many LOOPs it has
+abbrev pub LoopsOfSheet : List (Placed Statement) → ℕ → Type 0
+LoopsOfSheet rs n = (p : Sheet) → items rs ≡ records p → n ≡ loops p
+
+-- where the records are those of a sheet, places aside, d is its depth
+abbrev pub DepthOfSheet : List (Placed Statement) → ℕ → Type 0
+DepthOfSheet rs d = (p : Sheet) → items rs ≡ records p → d ≡ depth p

@@ -1,6 +1,6 @@
 // The counts of a sheet's records.
 ghost use mathlib.Core.Path.{_≡_};
-ghost use Rattle.survey.specs.Counts.{blockNumber, levelNumber, levelsAround, Deepest};
+ghost use Rattle.survey.specs.Counts.{blockNumber, levelNumber, levelsAround, Deepest, LoopsOfSheet, DepthOfSheet};
 ghost use Rattle.reader.specs.Checks.{loopNumber, loopsIn};
 ghost use Prim.Native.Nat.{_≤_};
 use reader::types::Kind;
@@ -23,7 +23,8 @@ fn loop_number(kind: Kind) -> usize
 
 // How many of the records are LOOPs.
 pub fn loops(records: &[Placed<Statement>]) -> usize
-    ensures { λ r. ⌜ r ≡ loopsIn (now (records .entry)) ⌝ }
+    ensures count { λ r. ⌜ r ≡ loopsIn (now (records .entry)) ⌝ }
+    ensures of_sheet { λ r. ⌜ LoopsOfSheet (now (records .entry)) r ⌝ }
 {
     let mut count = 0;
     for r in records {
@@ -71,7 +72,8 @@ fn levels_around(records: &[Placed<Statement>], index: usize) -> usize
 
 // The depth: the most LOOPs and WHILEs that are open at one index.
 pub fn depth(records: &[Placed<Statement>]) -> usize
-    ensures { λ r. ⌜ Deepest (now (records .entry)) r ⌝ }
+    ensures most { λ r. ⌜ Deepest (now (records .entry)) r ⌝ }
+    ensures of_sheet { λ r. ⌜ DepthOfSheet (now (records .entry)) r ⌝ }
 {
     let mut deepest = 0;
     for index in 0..records.len() {

@@ -1,5 +1,7 @@
+use mathlib.Core.Path.{_≡_, _∙_}
 use native.Mathlib.Omega.{arith}
-use Rattle.reader.proofs.Checking.{loops-more, loops-all}
+use Rattle.reader.specs.Checks.{loopsIn}
+use Rattle.reader.proofs.Checking.{loops-more, loops-all, loops-of}
 use Rattle.survey.proofs.loops.Needs as need
 
 pub loop-r-again : need.loop-r-again
@@ -9,4 +11,6 @@ loop-r-again c = (
 )
 
 pub returns : need.returns
-returns c = loops-all (c .args .records .now) (c .loop-r .r-index) (c .loop-r .count) (omega arith) (c .loop-r .inv .0)
+returns c =
+    let count : c .loop-r .count ≡ loopsIn (c .args .records .now) = loops-all (c .args .records .now) (c .loop-r .r-index) (c .loop-r .count) (omega arith) (c .loop-r .inv .0) in
+    record { count = count; of-sheet = λ p e. count ∙ loops-of (c .args .records .now) p e }
