@@ -1,0 +1,40 @@
+// What is found in the text of a sheet.
+use crate::escape::Escaped;
+use crate::escape::EscapedDisplay;
+use reader::print;
+use reader::read;
+use reader::types::Placed;
+use reader::types::Statement;
+use reader::types::ZERO_RECORD;
+use std::error::AnyError;
+use std::io::Write;
+use survey::depth;
+
+// Writes how the text is refused; or the counts of its sheet, and the sheet in printed form.
+pub fn write_finding(out: &mut impl Write, text: &[u8]) -> Result<(), AnyError> {
+    let mut records = [ZERO_RECORD; 256];
+    match read(text, &mut records) {
+        Ok(count) => write_sheet(out, &records[0..count]),
+        Err(refused) => {
+            let number = refused.item.number();
+            let place = refused.place;
+            writeln!(out, "refused {number} at {place}")?;
+            Ok(())
+        }
+    }
+}
+
+fn write_sheet(out: &mut impl Write, sheet: &[Placed<Statement>]) -> Result<(), AnyError> {
+    let statements = sheet.len();
+    let deepest = depth(sheet);
+    writeln!(out, "{statements} statements, depth {deepest}")?;
+    let mut page = [0; 16_384];
+    match print(sheet, &mut page) {
+        Ok(length) => {
+            let printed = Escaped(&page[0..length]);
+            writeln!(out, "printed {printed}")?;
+            Ok(())
+        }
+        Err(refusal) => Err(refusal.words().into()),
+    }
+}

@@ -1,0 +1,3 @@
+mod Levels
+mod Depths
+pub mod Fits

@@ -1,0 +1,16 @@
+use mathlib.Core.Path.{_≡_, _∙_}
+use native.Mathlib.Omega.{arith}
+use Rattle.reader.specs.Checks.{loopsIn}
+use Rattle.reader.proofs.Checking.{loops-more, loops-all, loops-of}
+use Rattle.survey.proofs.loops.Needs as need
+
+pub loop-r-again : need.loop-r-again
+loop-r-again c = (
+  loops-more (c .args .records .now) (c .loop-r .r-index) (c .loop-r .count) (c .loop-number-count .result) (omega arith) (c .loop-number-count .ensures .value) (c .loop-r .inv .0),
+  omega (arith, c .loop-r .inv .1, c .loop-number-count .ensures .small),
+)
+
+pub returns : need.returns
+returns c =
+    let count : c .loop-r .count ≡ loopsIn (c .args .records .now) = loops-all (c .args .records .now) (c .loop-r .r-index) (c .loop-r .count) (omega arith) (c .loop-r .inv .0) in
+    record { count = count; of-sheet = λ p e. count ∙ loops-of (c .args .records .now) p e }
