@@ -10,8 +10,8 @@ use Rattle.std.specs.declared.option.Option.{Option}
 use Rattle.std.specs.declared.option.Option.the-variants.{Some, None}
 use Rattle.std.proofs.shelf.Lists.{set-past, take-all}
 use Rattle.std.proofs.str.Laws.{order}
-use Rattle.reader.specs.declared.table.Table.{Table}
-use Rattle.reader.specs.Tables.{memory, count, Filed, Amended}
+use Rattle.filing.specs.declared.table.Table.{Table}
+use Rattle.filing.specs.Tables.{memory, count, Filed, Amended}
 
 -- the table t over the cells l, of which the first n are filed as far as they go
 module _ {A : Type 0} (t u : Table A) (l : List A) (n : ℕ) (x : A) (full : count t ≡ min n (length l)) (cells : memory t ≡ l) where

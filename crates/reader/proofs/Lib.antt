@@ -12,7 +12,6 @@ pub mod Expecting
 pub mod Tokens
 pub mod Words
 pub mod Lexing
-pub mod Clears
 pub mod Counts
 pub mod Driving
 pub mod Exactly

@@ -6,7 +6,7 @@ use native.Mathlib.Nat.{add-zero}
 use native.Mathlib.Omega.{arith}
 use lib.ListN.{length, set, length-set}
 use Rattle.std.proofs.shelf.Lists.{set-comm, set-set}
-use Rattle.reader.specs.Tables.{overwrite}
+use Rattle.filing.specs.Tables.{overwrite}
 
 pub length-overwrite : {A : Type 0} (m : List A) (n : ℕ) (xs : List A) → length (overwrite m n xs) ≡ length m
 length-overwrite m n [] = refl

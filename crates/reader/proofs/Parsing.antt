@@ -17,7 +17,7 @@ use Rattle.reader.specs.Symbols.{Symbol, LOOP, WHILE, DO, END, register, assig
 use Rattle.reader.specs.Grammar.{Spells, adds, subtracts, sequence, loops, whiles}
 use Rattle.reader.specs.Machine.{Expect, statement, more, loop-register, while-register, Step, to-next, to-end, to-loop, to-while, to-loop-register, to-loop-do, to-while-register, to-unequal, to-zero, to-while-do, refused, judge}
 use Rattle.reader.specs.Records.{statementOf, recordsFrom, withPlaces}
-use Rattle.reader.specs.Tables.{overwrite}
+use Rattle.filing.specs.Tables.{overwrite}
 use Rattle.reader.specs.Expecting.{Sign, sign-plus, sign-minus, Assigned, assigned, LoopHeadRead, WhileHeadRead}
 use Rattle.reader.specs.Lexing.{Between}
 use Rattle.reader.specs.Parsing.{Parsed, Opening, opening-loop, opening-while, Block, Admitted, admits-loop, admits-while, Head, head-loop, head-while, HeadRead}

@@ -23,7 +23,7 @@ use Rattle.reader.specs.Text.{Reads}
 use Rattle.reader.specs.Machine.{statement, more, accepted, judge, verdict}
 use Rattle.reader.specs.Claims.{Says}
 use Rattle.reader.specs.Records.{records, recordsFrom, withPlaces, zeroRecord, cleared}
-use Rattle.reader.specs.Tables.{overwrite}
+use Rattle.filing.specs.Tables.{overwrite}
 use Rattle.reader.specs.Reading.{Lexed, Sheeted, ReadAnswers, accepted as accepts, faulty, tree-full}
 use Rattle.reader.specs.Lexing.{Between}
 use Rattle.reader.specs.Expecting.{Over}

@@ -8,7 +8,6 @@ pub mod Text
 pub mod Records
 pub mod Refusals
 pub mod Reading
-pub mod Tables
 pub mod Lexing
 pub mod Expecting
 pub mod Parsing

@@ -27,7 +27,7 @@ use Rattle.reader.specs.Refusals.{refusalNumber}
 use Rattle.reader.specs.Records.{recordsFrom, records, withPlaces}
 use Rattle.reader.specs.Faults.{FirstFault}
 use Rattle.reader.specs.Reading.{Sheeted}
-use Rattle.reader.specs.Tables.{overwrite}
+use Rattle.filing.specs.Tables.{overwrite}
 use Rattle.reader.specs.Lexing.{meant, Fine, Between}
 use Rattle.reader.specs.Expecting.{Halts}
 

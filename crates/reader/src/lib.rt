@@ -7,7 +7,6 @@ mod parser;
 mod printer;
 mod reading;
 mod refusal;
-pub mod table;
 pub mod types;
 mod word;
 mod writer;

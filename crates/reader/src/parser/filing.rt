@@ -3,7 +3,7 @@ ghost use mathlib.Core.List.{_++_};
 ghost use Prim.Native.Nat.{ℕ, _-_, _<_};
 ghost use lib.ListN.{length, set, take};
 ghost use Rattle.reader.specs.Records.{cleared};
-use crate::table::Table;
+use filing::table::Table;
 use crate::types::Placed;
 use crate::types::Statement;
 use crate::types::ZERO_RECORD;

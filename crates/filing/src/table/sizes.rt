@@ -1,6 +1,6 @@
 ghost use mathlib.Core.Path.{_≡_};
 ghost use lib.ListN.{length};
-ghost use Rattle.reader.specs.Tables.{memory, count};
+ghost use Rattle.filing.specs.Tables.{memory, count};
 use super::Table;
 
 impl<'a, T> Table<'a, T> {

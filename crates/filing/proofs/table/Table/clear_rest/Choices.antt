@@ -2,8 +2,8 @@ use mathlib.Core.Path.{_≡_}
 use Prim.Native.Nat.{_-_, _≤_}
 use lib.ListN.{length}
 use denote.Ref.{name}
-use Rattle.reader.proofs.Clears.{swept}
-use Rattle.reader.proofs.table.Table.clear_rest.Given as given
+use Rattle.filing.proofs.Clears.{swept}
+use Rattle.filing.proofs.table.Table.clear_rest.Given as given
 
 abbrev pub Inv-loop-i : given.InvT-loop-i
 Inv-loop-i g l =

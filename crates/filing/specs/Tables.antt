@@ -7,7 +7,7 @@ use lib.ListN.{length, getD, set}
 use denote.Ref.{now, name}
 use Rattle.std.specs.declared.option.Option.{Option}
 use Rattle.std.specs.declared.option.Option.the-variants.{Some, None}
-use Rattle.reader.specs.declared.table.Table.{Table}
+use Rattle.filing.specs.declared.table.Table.{Table}
 
 -- all of the lent memory
 abbrev pub memory : {A : Type 0} → Table A → List A

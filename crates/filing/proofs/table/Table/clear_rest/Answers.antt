@@ -1,8 +1,8 @@
 use native.Mathlib.Omega.{arith}
 use mathlib.Core.Path.{refl, _∙_}
 use lib.ListN.{length-set}
-use Rattle.reader.proofs.table.Table.clear_rest.Needs as need
-use Rattle.reader.proofs.Clears.{sweep-more, sweep-none, sweep-all}
+use Rattle.filing.proofs.table.Table.clear_rest.Needs as need
+use Rattle.filing.proofs.Clears.{sweep-more, sweep-none, sweep-all}
 
 pub loop-i-holds : need.loop-i-holds
 loop-i-holds g c = (refl, sweep-none (c .args .self .now .filed) (c .args .zero) (c .args .self .now .cells .now), refl, omega arith, refl)

@@ -3,7 +3,7 @@ ghost use mathlib.Core.List.{List, _++_};
 ghost use Prim.Native.Nat.{ℕ, suc, min, _+_, _-_, _<_, _≤_};
 ghost use lib.ListN.{length, getD, set, take, replicate};
 ghost use denote.Ref.{name};
-ghost use Rattle.reader.specs.Tables.{memory, count, lent, Filed, Found, Amended};
+ghost use Rattle.filing.specs.Tables.{memory, count, lent, Filed, Found, Amended};
 use super::Table;
 
 impl<'a, T: Copy> Table<'a, T> {

@@ -1,0 +1,2 @@
+// The filing table: elements filed from the front of lent memory.
+pub mod table;
