@@ -14,3 +14,4 @@ pub mod Records
 pub mod Runs
 pub mod Scanning
 pub mod Uniquely
+pub mod WrittenRules

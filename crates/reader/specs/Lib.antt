@@ -10,3 +10,6 @@ pub mod Refusals
 pub mod Reading
 pub mod Tables
 pub mod Lexing
+pub mod Steps
+pub mod WrittenRun
+pub mod WrittenRules
