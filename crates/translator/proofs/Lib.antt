@@ -5,3 +5,5 @@ pub mod Laid
 pub mod Elsewhere
 pub mod Following
 pub mod GotoRules
+pub mod Sizes
+pub mod Width

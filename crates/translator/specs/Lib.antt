@@ -6,3 +6,4 @@ pub mod Width
 pub mod GotoRules
 pub mod Standing
 pub mod Following
+pub mod Sizes

@@ -18,10 +18,23 @@ pub enum Role {
 #[derive(Clone, Copy, Debug, PartialEq, Eq)]
 pub enum Operation {
     Halt,
-    Plus { target: usize, source: usize, constant: u32 },
-    Minus { target: usize, source: usize, constant: u32 },
-    If { source: usize, label: usize },
-    Goto { label: usize },
+    Plus {
+        target: usize,
+        source: usize,
+        constant: u32,
+    },
+    Minus {
+        target: usize,
+        source: usize,
+        constant: u32,
+    },
+    If {
+        source: usize,
+        label: usize,
+    },
+    Goto {
+        label: usize,
+    },
 }
 
 #[derive(Clone, Copy, Debug, PartialEq, Eq)]
