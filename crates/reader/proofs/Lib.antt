@@ -15,3 +15,5 @@ pub mod Runs
 pub mod Scanning
 pub mod Uniquely
 pub mod WrittenRules
+pub mod Spelled
+pub mod Steps

@@ -29,7 +29,7 @@ times-then : (n : ℕ) (b p q : Sheet) → then (times n b p) q ≡ times n b (t
 times-then zero b p q = refl
 times-then (suc n) b p q = then-then b (times n b p) q ∙ ap (then b) (times-then n b p q)
 
-some-then : (p q : Sheet) → Some p → Some (then p q)
+pub some-then : (p q : Sheet) → Some p → Some (then p q)
 some-then done q h = absurd h
 some-then (plus i j c p) q h = tt
 some-then (minus i j c p) q h = tt

@@ -20,8 +20,8 @@ use Rattle.translator.specs.declared.types.Operation.the-variants.{If}
 use Rattle.translator.specs.declared.types.Instruction.{Instruction}
 
 -- a path between written runs
-pub wr-path : {ρ ρ′ : List ℕ} {p p′ : Sheet} {n n′ : Counts} → ρ ≡ ρ′ → p ≡ p′ → n ≡ n′ → running ρ p n ≡ running ρ′ p′ n′
-wr-path a b c = λ i. record { registers = a i; rest = b i; counts = c i }
+pub run-path : {ρ ρ′ : List ℕ} {p p′ : Sheet} {n n′ : Counts} → ρ ≡ ρ′ → p ≡ p′ → n ≡ n′ → running ρ p n ≡ running ρ′ p′ n′
+run-path a b c = λ i. record { registers = a i; rest = b i; counts = c i }
 
 pub counts-path : {w e r r′ h : ℕ} → r ≡ r′ → _≡_ {A = Counts} (record { written = w; entered = e; rounds = r; whiles = h }) (record { written = w; entered = e; rounds = r′; whiles = h })
 counts-path {w = w} {e = e} {h = h} a = λ i. record { written = w; entered = e; rounds = a i; whiles = h }
@@ -176,7 +176,7 @@ module _ (code : List Instruction) (n d top : ℕ) (s : Box) where
       })
       (ap (λ (x : ℕ). ifLow (leb (x + c) top) (running (set (take 32 ν) i (x + c)) (then p (tail ν k)) (onePlain (seen s (before p k) .counts)))) reads
       ∙ ap (λ (x : Bool). ifLow x (running (set (take 32 ν) i v) (then p (tail ν k)) (onePlain (seen s (before p k) .counts)))) e
-      ∙ ap went (wr-path (sym (take-set-lt 32 ν i v (at .1 .0))) (ap (then p) (sym (tail-set ν i v k away))) (counts-path (ap (λ (x : ℕ). s .counts .rounds + x) (sym (pending-set ν i v k away))))))
+      ∙ ap went (run-path (sym (take-set-lt 32 ν i v (at .1 .0))) (ap (then p) (sym (tail-set ν i v k away))) (counts-path (ap (λ (x : ℕ). s .counts .rounds + x) (sym (pending-set ν i v k away))))))
   step-plus i j c p k h false e =
       let at = h .place in
       let ν = s .registers in
@@ -212,7 +212,7 @@ module _ (code : List Instruction) (n d top : ℕ) (s : Box) where
         bound = omega arith;
       })
       (ap (λ (x : ℕ). went (running (set (take 32 ν) i (x - c)) (then p (tail ν k)) (onePlain (seen s (before p k) .counts)))) reads
-      ∙ ap went (wr-path (sym (take-set-lt 32 ν i v (at .1 .0))) (ap (then p) (sym (tail-set ν i v k away))) (counts-path (ap (λ (x : ℕ). s .counts .rounds + x) (sym (pending-set ν i v k away))))))
+      ∙ ap went (run-path (sym (take-set-lt 32 ν i v (at .1 .0))) (ap (then p) (sym (tail-set ν i v k away))) (counts-path (ap (λ (x : ℕ). s .counts .rounds + x) (sym (pending-set ν i v k away))))))
 
   -- the entry of a LOOP
   step-loop : (i : ℕ) (b p : Sheet) (k : Around) → StandsAt code n d top s (before (loop i b p) k) → Stepped code n d top s (before (loop i b p) k)
@@ -249,7 +249,7 @@ module _ (code : List Instruction) (n d top : ℕ) (s : Box) where
         few = omega arith;
         bound = omega arith;
       })
-      (ap went (wr-path (sym (take-set-le 32 ν c v (laid .counter .high))) (λ z. times (reads z) b (then p (sym rests z))) (counts-path (omega arith))))
+      (ap went (run-path (sym (take-set-le 32 ν c v (laid .counter .high))) (λ z. times (reads z) b (then p (sym rests z))) (counts-path (omega arith))))
 
   -- the test of a WHILE
   step-while : (i : ℕ) (b p : Sheet) (k : Around) → StandsAt code n d top s (before (while i b p) k)
@@ -322,7 +322,7 @@ module _ (code : List Instruction) (n d top : ℕ) (s : Box) where
         few = h .few;
         bound = omega arith;
       })
-      (wr-path refl (ap (λ (x : ℕ). times x b (then p (tail ν k))) (sym e)) (counts-path (omega arith)))
+      (run-path refl (ap (λ (x : ℕ). times x b (then p (tail ν k))) (sym e)) (counts-path (omega arith)))
       (omega arith)
   step-testing c b p k h (suc v) e =
       let q = h .paid in
@@ -378,7 +378,7 @@ module _ (code : List Instruction) (n d top : ℕ) (s : Box) where
         few = h .few;
         bound = omega arith;
       })
-      (wr-path (take-set-le 32 ν c v (laid .counter .high))
+      (run-path (take-set-le 32 ν c v (laid .counter .high))
       ((λ z. then b (times (reads z) b (then p (rests z)))) ∙ ap (λ (x : ℕ). times x b (then p (tail ν k))) (sym left))
       (counts-path (omega arith)))
       (omega arith)

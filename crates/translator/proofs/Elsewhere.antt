@@ -10,7 +10,7 @@ use Rattle.reader.specs.Sheet.{Sheet, while, then}
 use Rattle.reader.specs.WrittenRun.{times}
 use Rattle.translator.specs.JumpCode.{Box}
 use Rattle.translator.specs.Standing.{Around, outermost, inWhile, inLoop, tail, pending, Ends, Spot, before, testing, lowering, Place, Live, restOf, pendingOf, seen, StandsAt}
-use Rattle.translator.proofs.BoxStep.{wr-path, counts-path}
+use Rattle.translator.proofs.BoxStep.{run-path, counts-path}
 use Rattle.translator.specs.Following.{Low, over}
 
 -- only the registers below n count
@@ -62,7 +62,7 @@ elsewhere code n d top s m ν h eq long low =
         few = h .few;
         bound = h .bound;
       },
-      wr-path (sym (take-take 32 n ν (h .wide)) ∙ ap (take 32) eq ∙ take-take 32 n (s .registers) (h .wide))
+      run-path (sym (take-take 32 n ν (h .wide)) ∙ ap (take 32) eq ∙ take-take 32 n (s .registers) (h .wide))
           (rest-same code n d top (s .registers) ν same (s .label) m (h .place))
           (counts-path (ap (λ (x : ℕ). s .counts .rounds + x) (pends-same code n d top (s .registers) ν same (s .label) m (h .place)))),
     )

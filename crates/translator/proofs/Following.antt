@@ -9,13 +9,14 @@ use lib.Seq.{take-set-lt, getD-set-other}
 use Rattle.reader.specs.Sheet.{Sheet, done, then, depth}
 use Rattle.reader.specs.WrittenRun.{WrittenRun, running, noCounts, writtenStep, writtenSteps}
 use Rattle.reader.proofs.WrittenRules.{then-done}
+use Rattle.reader.proofs.Spelled.{spelled-some, spelled-whole}
 use Rattle.translator.specs.declared.types.Instruction.{Instruction}
 use Rattle.translator.specs.JumpCode.{Box, boxStart, boxSteps}
 use Rattle.translator.specs.Counters.{firstCounter, sheetWidth}
 use Rattle.translator.specs.Translation.{compiled}
 use Rattle.translator.specs.Standing.{Away, Around, outermost, inWhile, inLoop, counters, levels, owed, Spot, before, testing, lowering, Place, Live, restOf, pendingOf, owedOf, seen, StandsAt, Stands}
-use Rattle.translator.specs.Following.{Playable, Low, sheetStep, sheetSteps, Halted, BoxStepped, silently, asWritten, blocked, atHalt, BoxStepIsWrittenOrSilent, StartStands, over, CorrectionStands, BeyondWidthIsFree, Settled, Agrees, StandingBoxAgrees, Owes, StepsAreAccounted, BoxStepsStand, BoxFollowsWritten}
-use Rattle.translator.proofs.BoxStep.{wr-path, counts-path, tail-set, pending-set, away-low, set-low, set-long, lack-some, silent, wrote, stuck, halted, step, obeys}
+use Rattle.translator.specs.Following.{Playable, Low, sheetStep, sheetSteps, Halted, BoxStepped, silently, asWritten, blocked, atHalt, BoxStepIsWrittenOrSilent, StartStands, SpelledSheetIsPlayable, over, CorrectionStands, BeyondWidthIsFree, Settled, Agrees, StandingBoxAgrees, Owes, StepsAreAccounted, BoxStepsStand, BoxFollowsWritten}
+use Rattle.translator.proofs.BoxStep.{run-path, counts-path, tail-set, pending-set, away-low, set-low, set-long, lack-some, silent, wrote, stuck, halted, step, obeys}
 use Rattle.translator.proofs.BoxSteps.{goes, Soon, soon, quiet-bound, at-halt, never-unfit}
 use Rattle.translator.proofs.Counters.{first-high, ends-above}
 use Rattle.translator.proofs.Laid.{at-start}
@@ -32,6 +33,9 @@ box-step top p s a h =
           atHalt e (obeys (compiled p) (sheetWidth p) top s e tt) (ap (λ (x : WrittenRun). x .rest) (h .same ∙ ap (seen s) is))
     ]
 
+pub spelled-playable : SpelledSheetIsPlayable
+spelled-playable xs p h w = record { some = spelled-some xs p h; whole = spelled-whole xs p h; fit = w .fit }
+
 pub start-stands : StartStands
 start-stands top p ν play long low =
     let lacks = lack-some p (play .some) in
@@ -47,7 +51,7 @@ start-stands top p ν play long low =
         few = omega arith;
         bound = omega arith;
       };
-      same = wr-path refl (sym (then-done p)) refl;
+      same = run-path refl (sym (then-done p)) refl;
     }
 
 -- the counters of a spot, and that a written register is none of them
@@ -97,7 +101,7 @@ correction-stands top p s a i v hi hv h =
       };
       same =
           ap (λ (x : WrittenRun). running (set (x .registers) i v) (x .rest) (x .counts)) (h .same)
-          ∙ wr-path (sym (take-set-lt 32 ν i v i-low)) (sym (rest-set ν i v m away)) (counts-path (ap (λ (x : ℕ). s .counts .rounds + x) (sym (pends-set ν i v m away))));
+          ∙ run-path (sym (take-set-lt 32 ν i v i-low)) (sym (rest-set ν i v m away)) (counts-path (ap (λ (x : ℕ). s .counts .rounds + x) (sym (pends-set ν i v m away))));
     }
 
 pub beyond-width : BeyondWidthIsFree

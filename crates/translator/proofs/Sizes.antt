@@ -132,7 +132,7 @@ flat-at-most p h =
 pub flat-size-counted : FlatSizeIsCounted
 flat-size-counted p =
     record {
-      size = flat-size p firstCounter;
+      statements = flat-size p firstCounter;
       records = records-length (flat p) 0;
       places = λ xs h. places-length p xs h ∙ sym (flat-size p firstCounter);
     }

@@ -5,8 +5,10 @@ use mathlib.Core.List.{List}
 use mathlib.Core.Option.{some}
 use Prim.Native.Nat.{ℕ, suc, _+_, _*_, _≤_, _<_}
 use lib.ListN.{length, getD, set, take}
-use Rattle.reader.specs.Sheet.{Sheet, done, Some, Whole, Fit, depth}
-use Rattle.reader.specs.Steps.{went, waits, ended, unfit}
+use Rattle.reader.specs.Sheet.{Sheet, done, Some, Whole, Fit, Within, depth}
+use Rattle.reader.specs.Symbols.{Symbol}
+use Rattle.reader.specs.Grammar.{Spells}
+use Rattle.reader.specs.Steps.{Next, went, waits, ended, unfit}
 use Rattle.reader.specs.WrittenRun.{WrittenRun, running, noCounts, writtenStep, writtenSteps}
 use Rattle.translator.specs.declared.types.Role.{Role}
 use Rattle.translator.specs.declared.types.Role.the-variants.{Halt, Written, Entry, Test, Down, Jump}
@@ -22,12 +24,16 @@ pub record Playable (p : Sheet) : Type 0 where
   pub whole : Whole p
   pub fit : Fit p
 
+-- every sheet that the reader accepts is one
+abbrev pub SpelledSheetIsPlayable : Type 0
+SpelledSheetIsPlayable = (xs : List Symbol) (p : Sheet) → Spells xs p → Within p → Playable p
+
 -- no number is above the top
 abbrev pub Low : ℕ → List ℕ → Type 0
 Low top ν = (i : ℕ) → getD ν i 0 ≤ top
 
 -- one step of the box of a sheet
-abbrev pub sheetStep : ℕ → Sheet → Box → Rattle.reader.specs.Steps.Next Box
+abbrev pub sheetStep : ℕ → Sheet → Box → Next Box
 sheetStep top p s = boxStep top (sheetWidth p) (compiled p) s
 
 abbrev pub sheetSteps : ℕ → Sheet → ℕ → Box → Box

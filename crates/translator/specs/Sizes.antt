@@ -26,9 +26,9 @@ whiles (while i b p) = suc (whiles b + whiles p)
 
 -- a LOOP is three flat statements, and any other statement one; each has its record and its place
 pub record FlatSizes (p : Sheet) : Type 0 where
-  pub size : flatSize (flat p) ≡ size p + 2 * loops p
+  pub statements : flatSize (flat p) ≡ size p + 2 * loops p
   pub records : length (flatRecords (flat p)) ≡ flatSize (flat p)
-  pub places : (xs : List ℕ) → length xs ≡ Rattle.reader.specs.Sheet.size p → length (flatPlaces p xs) ≡ flatSize (flat p)
+  pub places : (xs : List ℕ) → length xs ≡ size p → length (flatPlaces p xs) ≡ flatSize (flat p)
 
 abbrev pub FlatSizeIsCounted : Type 0
 FlatSizeIsCounted = (p : Sheet) → FlatSizes p

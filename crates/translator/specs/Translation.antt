@@ -1,10 +1,12 @@
 -- The jump code of a sheet in two stages: a LOOP becomes an entry and a WHILE over its counter, and then every WHILE becomes a test, its body
 -- and a jump back.
 use mathlib.Core.List.{List, [], _∷_, _++_}
-use Prim.Native.Nat.{ℕ, zero, suc, _+_}
-use lib.ListN.{take, drop, replicate}
+use Prim.Native.Nat.{ℕ, suc, _+_}
+use lib.ListN.{take, drop}
 use Rattle.reader.specs.declared.types.Kind.the-variants as kind
 use Rattle.reader.specs.Sheet.{Sheet, done, plus, minus, loop, while, size}
+use Rattle.reader.specs.declared.types.Placed.{Placed}
+use Rattle.reader.specs.Symbols.{placed}
 use Rattle.reader.specs.Records.{statementOf}
 use Rattle.translator.specs.declared.types.Role.{Role}
 use Rattle.translator.specs.declared.types.Role.the-variants.{Written, Entry, Test, Down, Jump}
@@ -78,6 +80,15 @@ flatPlaces (plus i j k p) (x ∷ xs) = x ∷ flatPlaces p xs
 flatPlaces (minus i j k p) (x ∷ xs) = x ∷ flatPlaces p xs
 flatPlaces (loop i b p) (x ∷ xs) = x ∷ x ∷ x ∷ (flatPlaces b (take (size b) xs) ++ flatPlaces p (drop (size b) xs))
 flatPlaces (while i b p) (x ∷ xs) = x ∷ (flatPlaces b (take (size b) xs) ++ flatPlaces p (drop (size b) xs))
+
+abbrev pub flatsWithPlaces : List ℕ → List Flat → List (Placed Flat)
+flatsWithPlaces [] fs = []
+flatsWithPlaces (x ∷ xs) [] = []
+flatsWithPlaces (x ∷ xs) (f ∷ fs) = placed x f ∷ flatsWithPlaces xs fs
+
+-- the flat statements of a sheet with their places, where the statements have the places xs
+abbrev pub placedFlats : Sheet → List ℕ → List (Placed Flat)
+placedFlats p xs = flatsWithPlaces (flatPlaces p xs) (flatRecords (flat p))
 
 abbrev pub zeroFlat : Flat
 zeroFlat = record { statement = statementOf kind.Zero 0 0 0 0; role = Written }

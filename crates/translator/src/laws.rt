@@ -2,7 +2,7 @@
 ghost use Rattle.reader.specs.WrittenRules.{WrittenStepIsPublished, SheetIsProgram};
 ghost use Rattle.translator.specs.GotoRules.{BoxStepIsPublished};
 ghost use Rattle.translator.specs.Sizes.{FlatSizeIsCounted, FlatHasAtMost320, CodeSizeIsCounted, CodeHasAtMost548, CodeWidthIsSheetWidth, CodeIsWhole};
-ghost use Rattle.translator.specs.Following.{StartStands, BoxStepIsWrittenOrSilent, BoxStepsStand, CorrectionStands, BeyondWidthIsFree, StepsAreAccounted, StandingBoxAgrees, BoxFollowsWritten};
+ghost use Rattle.translator.specs.Following.{SpelledSheetIsPlayable, StartStands, BoxStepIsWrittenOrSilent, BoxStepsStand, CorrectionStands, BeyondWidthIsFree, StepsAreAccounted, StandingBoxAgrees, BoxFollowsWritten};
 
 // The written step takes exactly the published LOOP and WHILE steps.
 pub fn written_rules_hold() -> u8
@@ -63,6 +63,13 @@ pub fn width_holds() -> u8
 // The code of a sheet can be sealed.
 pub fn code_is_whole() -> u8
     ensures { λ _. ⌜ CodeIsWhole ⌝ }
+{
+    0
+}
+
+// Every sheet that the reader accepts can be translated and played.
+pub fn spelled_sheet_is_playable() -> u8
+    ensures { λ _. ⌜ SpelledSheetIsPlayable ⌝ }
 {
     0
 }
