@@ -1,12 +1,13 @@
 -- The box beside the written run: start, steps, corrections, and whole runs.
 use mathlib.Core.Path.{_≡_, refl, sym, ap, subst, _∙_}
 use mathlib.Core.List.{List, _∷_}
-use Prim.Native.Nat.{ℕ, suc, _+_, _*_, _≤_, _<_}
+use Prim.Native.Nat.{ℕ, zero, suc, _+_, _*_, _≤_, _<_}
 use native.Mathlib.Nat.{add-zero, zero-add, le-trans}
 use native.Mathlib.Omega.{arith}
 use lib.ListN.{length, set, take, getD}
 use lib.Seq.{take-set-lt, getD-set-other}
 use Rattle.reader.specs.Sheet.{Sheet, done, then, depth}
+use Rattle.reader.specs.Steps.{Next, went, goOn}
 use Rattle.reader.specs.WrittenRun.{WrittenRun, running, noCounts, writtenStep, writtenSteps}
 use Rattle.reader.proofs.WrittenRules.{then-done}
 use Rattle.reader.proofs.Spelled.{spelled-some, spelled-whole}
@@ -14,8 +15,8 @@ use Rattle.translator.specs.declared.types.Instruction.{Instruction}
 use Rattle.translator.specs.JumpCode.{Box, boxStart, boxSteps}
 use Rattle.translator.specs.Counters.{firstCounter, sheetWidth}
 use Rattle.translator.specs.Translation.{compiled}
-use Rattle.translator.specs.Standing.{Away, Around, outermost, inWhile, inLoop, counters, levels, owed, Spot, before, testing, lowering, Place, Live, restOf, pendingOf, owedOf, seen, StandsAt, Stands}
-use Rattle.translator.specs.Following.{Playable, Low, sheetStep, sheetSteps, Halted, BoxStepped, silently, asWritten, blocked, atHalt, BoxStepIsWrittenOrSilent, StartStands, SpelledSheetIsPlayable, over, CorrectionStands, BeyondWidthIsFree, Settled, Agrees, StandingBoxAgrees, Owes, StepsAreAccounted, BoxStepsStand, BoxFollowsWritten}
+use Rattle.translator.specs.Standing.{Away, Around, outermost, inWhile, inLoop, counters, levels, owed, Spot, before, testing, lowering, Place, Live, restOf, pendingOf, owedOf, quiet, seen, StandsAt, Stands}
+use Rattle.translator.specs.Following.{Playable, Low, sheetStep, sheetSteps, Halted, BoxStepped, silently, asWritten, blocked, atHalt, BoxStepIsWrittenOrSilent, DoesNext, KeepsUp, BoxKeepsUp, StartStands, SpelledSheetIsPlayable, over, CorrectionStands, BeyondWidthIsFree, Settled, Agrees, StandingBoxAgrees, Owes, StepsAreAccounted, BoxStepsStand, BoxFollowsWritten}
 use Rattle.translator.proofs.BoxStep.{run-path, counts-path, tail-set, pending-set, away-low, set-low, set-long, lack-some, silent, wrote, stuck, halted, step, obeys}
 use Rattle.translator.proofs.BoxSteps.{goes, Soon, soon, quiet-bound, at-halt, never-unfit}
 use Rattle.translator.proofs.Counters.{first-high, ends-above}
@@ -166,3 +167,60 @@ box-follows top p ν play long low k =
     let r = steps-stand top p (boxStart ν) a k (start-stands top p ν play long low) in
     let e : r .0 ≡ s .counts .written = sym (zero-add (r .0)) ∙ sym (r .1) in
     standing-agrees top p s (writtenSteps top (s .counts .written) a) (subst (λ (w : ℕ). Stands top p s (writtenSteps top w a)) e (r .2))
+
+-- after at most q silent steps the box does what the written run comes to next
+record Reached (top : ℕ) (p : Sheet) (s : Box) (a : WrittenRun) (q : ℕ) : Type 0 where
+  silent : ℕ
+  few : silent ≤ q
+  stands : Stands top p (sheetSteps top p silent s) a
+  next : DoesNext top p (writtenStep top a) (sheetSteps top p silent s)
+
+-- one silent step first
+abbrev after-one : ℕ → Sheet → ℕ → Box → Next Box → Box
+after-one top p k s o = goOn o s (sheetSteps top p k)
+
+reach-on : (top : ℕ) (p : Sheet) (s t : Box) (a : WrittenRun) (q : ℕ) → sheetStep top p s ≡ went t → Reached top p t a q → Reached top p s a (suc q)
+reach-on top p s t a q e r =
+    let back = sym (ap (after-one top p (r .silent) s) e) in
+    let few = r .few in
+    record {
+      silent = suc (r .silent);
+      few = omega arith;
+      stands = subst (λ (x : Box). Stands top p x a) back (r .stands);
+      next = subst (DoesNext top p (writtenStep top a)) back (r .next);
+    }
+
+-- the next step is no silent one
+reach-now : (top : ℕ) (p : Sheet) (s : Box) (m : Spot) (q : ℕ) → StandsAt (compiled p) (sheetWidth p) (depth p) top s m
+    → DoesNext top p (writtenStep top (seen s m)) s → Reached top p s (seen s m) q
+reach-now top p s m q at next = record { silent = 0; few = omega arith; stands = record { spot = m; at = at; same = refl }; next = next }
+
+reach-wrote : (top : ℕ) (p : Sheet) (s t : Box) (m m′ : Spot) → sheetStep top p s ≡ went t → StandsAt (compiled p) (sheetWidth p) (depth p) top t m′
+    → writtenStep top (seen s m) ≡ went (seen t m′) → DoesNext top p (writtenStep top (seen s m)) s
+reach-wrote top p s t m m′ e at next = subst (λ (o : Next WrittenRun). DoesNext top p o s) (sym next) (t, e, record { spot = m′; at = at; same = refl })
+
+reach-halted : (top : ℕ) (p : Sheet) (s : Box) (m : Spot) → Halted p s → m ≡ before done outermost → DoesNext top p (writtenStep top (seen s m)) s
+reach-halted top p s m e is = subst (λ (x : Spot). DoesNext top p (writtenStep top (seen s x)) s) (sym is) e
+
+reach : (top : ℕ) (p : Sheet) (q : ℕ) (s : Box) (m : Spot) → StandsAt (compiled p) (sheetWidth p) (depth p) top s m → quiet m ≤ q → Reached top p s (seen s m) q
+reach top p zero s m at h =
+    elim (step (compiled p) (sheetWidth p) (depth p) top s m at) [
+      | silent t m′ role e moved at′ same fall ↦ absurd (omega arith)
+      | wrote t m′ role e moved at′ next ↦ reach-now top p s m 0 at (reach-wrote top p s t m m′ e at′ next)
+      | stuck e same ↦ reach-now top p s m 0 at (subst (λ (o : Next WrittenRun). DoesNext top p o s) (sym same) e)
+      | halted e is ↦ reach-now top p s m 0 at (reach-halted top p s m e is)
+    ]
+reach top p (suc q) s m at h =
+    elim (step (compiled p) (sheetWidth p) (depth p) top s m at) [
+      | silent t m′ role e moved at′ same fall ↦
+          reach-on top p s t (seen s m) q e (subst (λ (x : WrittenRun). Reached top p t x q) same (reach top p q t m′ at′ (omega arith)))
+      | wrote t m′ role e moved at′ next ↦ reach-now top p s m (suc q) at (reach-wrote top p s t m m′ e at′ next)
+      | stuck e same ↦ reach-now top p s m (suc q) at (subst (λ (o : Next WrittenRun). DoesNext top p o s) (sym same) e)
+      | halted e is ↦ reach-now top p s m (suc q) at (reach-halted top p s m e is)
+    ]
+
+pub box-keeps-up : BoxKeepsUp
+box-keeps-up top p s a h =
+    let low = quiet-bound (compiled p) (sheetWidth p) (depth p) top s (h .spot) (h .at) in
+    let r = subst (λ (x : WrittenRun). Reached top p s x (2 * depth p + 1)) (sym (h .same)) (reach top p (2 * depth p + 1) s (h .spot) (h .at) (omega arith)) in
+    record { silent = r .silent; few = r .few; stands = r .stands; next = r .next }

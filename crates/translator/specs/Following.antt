@@ -77,6 +77,23 @@ pub data BoxStepped (top : ℕ) (p : Sheet) (s : Box) (a : WrittenRun) : Type 0 
 abbrev pub BoxStepIsWrittenOrSilent : Type 0
 BoxStepIsWrittenOrSilent = (top : ℕ) (p : Sheet) (s : Box) (a : WrittenRun) → Stands top p s a → BoxStepped top p s a
 
+-- the box does next what the written run comes to next
+abbrev pub DoesNext : ℕ → Sheet → Next WrittenRun → Box → Type 0
+DoesNext top p (went b) s = (t : Box) × (sheetStep top p s ≡ went t) × Stands top p t b
+DoesNext top p waits s = sheetStep top p s ≡ waits
+DoesNext top p ended s = Halted p s
+DoesNext top p unfit s = ⊥
+
+-- after some silent steps, at most 2 x depth + 1, the next step of the box is that of the written run
+pub record KeepsUp (top : ℕ) (p : Sheet) (s : Box) (a : WrittenRun) : Type 0 where
+  pub silent : ℕ
+  pub few : silent ≤ 2 * depth p + 1
+  pub stands : Stands top p (sheetSteps top p silent s) a
+  pub next : DoesNext top p (writtenStep top a) (sheetSteps top p silent s)
+
+abbrev pub BoxKeepsUp : Type 0
+BoxKeepsUp = (top : ℕ) (p : Sheet) (s : Box) (a : WrittenRun) → Stands top p s a → KeepsUp top p s a
+
 -- before M1 a box stands for the whole sheet, whatever its counters hold
 abbrev pub StartStands : Type 0
 StartStands =

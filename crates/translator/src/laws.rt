@@ -2,7 +2,7 @@
 ghost use Rattle.reader.specs.WrittenRules.{WrittenStepIsPublished, SheetIsProgram};
 ghost use Rattle.translator.specs.GotoRules.{BoxStepIsPublished};
 ghost use Rattle.translator.specs.Sizes.{FlatSizeIsCounted, FlatHasAtMost320, CodeSizeIsCounted, CodeHasAtMost548, CodeWidthIsSheetWidth, CodeIsWhole};
-ghost use Rattle.translator.specs.Following.{SpelledSheetIsPlayable, StartStands, BoxStepIsWrittenOrSilent, BoxStepsStand, CorrectionStands, BeyondWidthIsFree, StepsAreAccounted, StandingBoxAgrees, BoxFollowsWritten};
+ghost use Rattle.translator.specs.Following.{SpelledSheetIsPlayable, StartStands, BoxStepIsWrittenOrSilent, BoxKeepsUp, BoxStepsStand, CorrectionStands, BeyondWidthIsFree, StepsAreAccounted, StandingBoxAgrees, BoxFollowsWritten};
 
 // The written step takes exactly the published LOOP and WHILE steps.
 pub fn written_rules_hold() -> u8
@@ -84,6 +84,13 @@ pub fn start_stands() -> u8
 // A box step is silent or one written step, or both wait, or both have ended.
 pub fn step_holds() -> u8
     ensures { λ _. ⌜ BoxStepIsWrittenOrSilent ⌝ }
+{
+    0
+}
+
+// After a few silent steps the box does what the written run does next.
+pub fn box_keeps_up() -> u8
+    ensures { λ _. ⌜ BoxKeepsUp ⌝ }
 {
     0
 }
