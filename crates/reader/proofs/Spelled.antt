@@ -5,7 +5,7 @@ use Rattle.reader.specs.Symbols.{Symbol}
 use Rattle.reader.specs.Grammar.{Spells, adds, subtracts, sequence, loops, whiles}
 use Rattle.reader.proofs.WrittenRules.{some-then}
 
-whole-then : (p q : Sheet) → Whole p → Whole q → Whole (then p q)
+pub whole-then : (p q : Sheet) → Whole p → Whole q → Whole (then p q)
 whole-then done q h g = g
 whole-then (plus i j c p) q h g = whole-then p q h g
 whole-then (minus i j c p) q h g = whole-then p q h g

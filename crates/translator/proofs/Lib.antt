@@ -7,3 +7,4 @@ pub mod Following
 pub mod GotoRules
 pub mod Sizes
 pub mod Width
+pub mod Fullest

@@ -2,9 +2,10 @@
 use mathlib.Core.Path.{_≡_}
 use mathlib.Core.List.{List, _∷_, []}
 use mathlib.Core.Option.{some}
-use Prim.Native.Nat.{ℕ, suc, _+_, _*_, _≤_}
+use Prim.Native.Nat.{ℕ, zero, suc, _+_, _*_, _≤_}
 use lib.ListN.{length}
 use Rattle.reader.specs.Sheet.{Sheet, done, plus, minus, loop, while, Whole, Fit, Within, size, loops}
+use Rattle.reader.specs.WrittenRun.{times}
 use Rattle.translator.specs.JumpCode.{halt, instructionAt, AllFit}
 use Rattle.translator.specs.Counters.{sheetWidth}
 use Rattle.translator.specs.Translation.{flat, flatSize, flatRecords, flatPlaces, compiled}
@@ -41,6 +42,26 @@ CodeSizeIsCounted = (p : Sheet) → length (compiled p) ≡ assignments p + 4 * 
 
 abbrev pub CodeHasAtMost548 : Type 0
 CodeHasAtMost548 = (p : Sheet) → Whole p → Within p → length (compiled p) ≤ 548
+
+-- n LOOPs, or n WHILEs, around one assignment
+abbrev pub loopNest : ℕ → Sheet
+loopNest zero = plus 0 0 0 done
+loopNest (suc n) = loop 0 (loopNest n) done
+
+abbrev pub whileNest : ℕ → Sheet
+whileNest zero = plus 0 0 0 done
+whileNest (suc n) = while 0 (whileNest n) done
+
+-- 28 nests of 8 levels and one of 3, with 32 LOOPs among them
+abbrev pub fullest : Sheet
+fullest = times 4 (loopNest 8) (times 24 (whileNest 8) (whileNest 3))
+
+-- the bounds are met
+pub record Fullest : Type 0 where
+  pub whole : Whole fullest
+  pub within : Within fullest
+  pub flats : length (flatRecords (flat fullest)) ≡ 320
+  pub code : length (compiled fullest) ≡ 548
 
 -- N of a sheet's code is 32 and its LOOPs
 abbrev pub CodeWidthIsSheetWidth : Type 0

@@ -1,7 +1,7 @@
 // The theorems about sheet, code and box, each the contract of a function.
 ghost use Rattle.reader.specs.WrittenRules.{WrittenStepIsPublished, SheetIsProgram};
 ghost use Rattle.translator.specs.GotoRules.{BoxStepIsPublished};
-ghost use Rattle.translator.specs.Sizes.{FlatSizeIsCounted, FlatHasAtMost320, CodeSizeIsCounted, CodeHasAtMost548, CodeWidthIsSheetWidth, CodeIsWhole};
+ghost use Rattle.translator.specs.Sizes.{FlatSizeIsCounted, FlatHasAtMost320, CodeSizeIsCounted, CodeHasAtMost548, Fullest, CodeWidthIsSheetWidth, CodeIsWhole};
 ghost use Rattle.translator.specs.Following.{SpelledSheetIsPlayable, StartStands, BoxStepIsWrittenOrSilent, BoxKeepsUp, BoxStepsStand, CorrectionStands, BeyondWidthIsFree, StepsAreAccounted, StandingBoxAgrees, BoxFollowsWritten};
 
 // The written step takes exactly the published LOOP and WHILE steps.
@@ -49,6 +49,13 @@ pub fn code_size_holds() -> u8
 // A sheet within the limits has at most 548 instructions.
 pub fn code_bound_holds() -> u8
     ensures { λ _. ⌜ CodeHasAtMost548 ⌝ }
+{
+    0
+}
+
+// Some sheet within the limits has 320 flat statements and 548 instructions.
+pub fn bounds_are_met() -> u8
+    ensures { λ _. ⌜ Fullest ⌝ }
 {
     0
 }
