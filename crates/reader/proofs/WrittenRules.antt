@@ -2,14 +2,14 @@
 use mathlib.Core.Path.{_≡_, refl, sym, ap, subst, _∙_}
 use mathlib.Core.Bool.{Bool, true, false}
 use mathlib.Core.List.{List}
-use Prim.Native.Nat.{ℕ, zero, suc, _+_, _-_, _≤_}
+use Prim.Native.Nat.{ℕ, zero, suc, _+_, _-_}
 use native.Mathlib.Omega.{arith}
 use lib.Dec.{T, leb, leb→le, le→leb}
 use lib.ListN.{getD, set}
 use Rattle.reader.specs.Sheet.{Sheet, done, plus, minus, loop, while, then, Some, Whole}
 use Rattle.reader.specs.Steps.{Next, went, waits, ended, unfit, ifLow}
-use Rattle.reader.specs.WrittenRun.{Counts, WrittenRun, running, times, onePlain, oneLoop, oneWhile, afterWhile, writtenOf, writtenStep}
-use Rattle.reader.specs.WrittenRules.{Program, assignPlus, assignMinus, sequence, loopDo, whileDo, Left, empty, left, before, copies, RuleStep, plusRule, minusRule, firstEnds, firstGoesOn, loopRule, whileVanishes, whileGoesOn, sheetOf, sheetLeft, SheetIsProgram, TakesRules, WrittenStepIsPublished}
+use Rattle.reader.specs.WrittenRun.{Counts, WrittenRun, running, times, onePlain, oneLoop, oneWhile, afterWhile, writtenOf}
+use Rattle.reader.specs.WrittenRules.{Program, assignPlus, assignMinus, sequence, loopDo, whileDo, Left, empty, left, before, copies, RuleStep, plusRule, minusRule, firstEnds, firstGoesOn, loopRule, whileVanishes, whileGoesOn, sheetOf, sheetLeft, SheetIsProgram, WrittenStepIsPublished}
 
 pub then-done : (p : Sheet) → then p done ≡ p
 then-done done = refl

@@ -3,7 +3,7 @@ use mathlib.Core.Path.{_≡_}
 use mathlib.Core.List.{List}
 use Prim.Native.Nat.{ℕ, zero, suc, _+_, _-_, _≤_}
 use lib.ListN.{getD, set}
-use Rattle.reader.specs.Sheet.{Sheet, done, plus, minus, loop, while, then, Some, Whole}
+use Rattle.reader.specs.Sheet.{Sheet, done, plus, minus, loop, while, then, Whole}
 use Rattle.reader.specs.Steps.{went, waits, ended}
 use Rattle.reader.specs.WrittenRun.{Counts, WrittenRun, running, writtenStep}
 

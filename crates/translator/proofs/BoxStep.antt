@@ -1,12 +1,12 @@
 -- One box step: it is silent, or it is one written step, or both wait, or both have ended.
 use mathlib.Core.Path.{_≡_, refl, sym, ap, subst, _∙_}
-use mathlib.Core.Bool.{Bool, true, false, _&&_}
+use mathlib.Core.Bool.{Bool, true, false}
 use mathlib.Core.List.{List, [], _∷_}
 use mathlib.Core.Option.{Option, none, some}
 use Prim.Native.Nat.{ℕ, zero, suc, _+_, _-_, _*_, _≤_, _<_, suc-le-suc}
 use native.Mathlib.Nat.{add-zero}
 use native.Mathlib.Omega.{arith}
-use lib.Dec.{T, leb, ltb, leb→le, le→leb, lt→ltb}
+use lib.Dec.{T, leb, leb→le, le→leb}
 use lib.ListN.{length, getD, set, take, getElem?, length-set}
 use lib.Seq.{getD-take, take-set-lt, take-set-le, getD-set-same, getD-set-other}
 use Rattle.reader.specs.Sheet.{Sheet, done, plus, minus, loop, while, then, Some}
@@ -18,6 +18,7 @@ use Rattle.translator.specs.Standing.{Away, Lays, Around, outermost, inWhile, 
 use Rattle.translator.specs.declared.types.Role.the-variants.{Written, Entry, Test, Down}
 use Rattle.translator.specs.declared.types.Operation.the-variants.{If}
 use Rattle.translator.specs.declared.types.Instruction.{Instruction}
+use Rattle.translator.proofs.Fits.{is-true, true-is, two-fit, label-fit, test-fit}
 
 -- a path between written runs
 pub run-path : {ρ ρ′ : List ℕ} {p p′ : Sheet} {n n′ : Counts} → ρ ≡ ρ′ → p ≡ p′ → n ≡ n′ → running ρ p n ≡ running ρ′ p′ n′
@@ -89,14 +90,6 @@ quiet-most (minus i j c p) k = omega arith
 quiet-most (loop i b p) k = omega arith
 quiet-most (while i b p) k = omega arith
 
-pub is-true : (b : Bool) → T b → b ≡ true
-is-true true t = refl
-is-true false t = absurd t
-
-true-is : (b : Bool) → b ≡ true → T b
-true-is true e = tt
-true-is false e = subst T (sym e) tt
-
 -- what one box step comes to, beside the written run that the box stands for
 pub record Moved (s s′ : Box) (more : ℕ) : Type 0 where
   pub steps : s′ .steps ≡ suc (s .steps)
@@ -112,13 +105,6 @@ pub obeys : (code : List Instruction) (n top : ℕ) (s : Box) {x : Instruction} 
 obeys code n top s {x} e f = ap (λ (o : Option Instruction). obeyAt top n (length code) o s) e ∙ ap (λ (b : Bool). obeyFit b top x s) (is-true (fits n (length code) (x .operation)) f)
 
 -- what the code of a sheet names is there
-both-true : (a b : Bool) → T a → T b → T (a && b)
-both-true true b ta tb = tb
-both-true false b ta tb = ta
-
-fit-two : (n i j : ℕ) → i < n → j < n → T ((ltb i n) && (ltb j n))
-fit-two n i j hi hj = both-true (ltb i n) (ltb j n) (lt→ltb i n hi) (lt→ltb j n hj)
-
 elem-below : (l : List Instruction) (i : ℕ) (y : Instruction) → getElem? l i ≡ some y → i < length l
 elem-below [] i y e = let z : _≡_ {A = ℕ} 0 1 = cc in absurd (omega arith)
 elem-below (x ∷ l) zero y e = omega arith
@@ -126,7 +112,7 @@ elem-below (x ∷ l) (suc i) y e = suc-le-suc (elem-below l i y e)
 
 fit-label : (code : List Instruction) (k : ℕ) (y : Instruction) → instructionAt code k ≡ some y → T (inside (length code) k)
 fit-label code zero y e = let z : _≡_ {A = ℕ} 0 1 = cc in absurd (omega arith)
-fit-label code (suc k) y e = both-true (leb 1 (suc k)) (leb (suc k) (length code)) (le→leb 1 (suc k) (omega arith)) (le→leb (suc k) (length code) (elem-below code k y e))
+fit-label code (suc k) y e = label-fit (length code) (suc k) (omega arith) (elem-below code k y e)
 
 abbrev There : List Instruction → ℕ → Type 0
 There code l = (y : Instruction) × (instructionAt code l ≡ some y)
@@ -144,7 +130,7 @@ lays-there code n l m out (loop i b p) e t = (_, e .3)
 lays-there code n l m out (while i b p) e t = (_, e .1 .test)
 
 fit-test : (code : List Instruction) (n i k : ℕ) → i < n → There code k → T (fits n (length code) (If i k))
-fit-test code n i k h t = both-true (ltb i n) (inside (length code) k) (lt→ltb i n h) (fit-label code k (t .0) (t .1))
+fit-test code n i k h t = test-fit n (length code) i k h (fit-label code k (t .0) (t .1))
 
 module _ (code : List Instruction) (n d top : ℕ) (s : Box) where
   -- xi := xj + c
@@ -162,7 +148,7 @@ module _ (code : List Instruction) (n d top : ℕ) (s : Box) where
       let f = h .few in
       let l = lack-one p in
       let s′ : Box = to (suc (s .label)) (set ν i v) (tallied Written (s .counts)) s in
-      wrote s′ (before p k) (_, at .1 .2, tt) (obeys code n top s (at .1 .2) (fit-two n i j (omega (arith, at .1 .0, h .wide)) (omega (arith, at .1 .1, h .wide))) ∙ ap (λ (x : Bool). ifLow x s′) e)
+      wrote s′ (before p k) (_, at .1 .2, tt) (obeys code n top s (at .1 .2) (two-fit n i j (omega (arith, at .1 .0, h .wide)) (omega (arith, at .1 .1, h .wide))) ∙ ap (λ (x : Bool). ifLow x s′) e)
       (record { steps = refl; written = omega arith })
       (record {
         place = (at .0, at .1 .3, at .2, at .3);
@@ -181,7 +167,7 @@ module _ (code : List Instruction) (n d top : ℕ) (s : Box) where
       let at = h .place in
       let ν = s .registers in
       let reads = getD-take 32 ν j 0 (at .1 .1) in
-      stuck (obeys code n top s (at .1 .2) (fit-two n i j (omega (arith, at .1 .0, h .wide)) (omega (arith, at .1 .1, h .wide))) ∙ ap (λ (x : Bool). ifLow x (to (suc (s .label)) (set ν i (getD ν j 0 + c)) (tallied Written (s .counts)) s)) e)
+      stuck (obeys code n top s (at .1 .2) (two-fit n i j (omega (arith, at .1 .0, h .wide)) (omega (arith, at .1 .1, h .wide))) ∙ ap (λ (x : Bool). ifLow x (to (suc (s .label)) (set ν i (getD ν j 0 + c)) (tallied Written (s .counts)) s)) e)
       (ap (λ (x : ℕ). ifLow (leb (x + c) top) (running (set (take 32 ν) i (x + c)) (then p (tail ν k)) (onePlain (seen s (before p k) .counts)))) reads
       ∙ ap (λ (x : Bool). ifLow x (running (set (take 32 ν) i (getD ν j 0 + c)) (then p (tail ν k)) (onePlain (seen s (before p k) .counts)))) e)
 
@@ -199,7 +185,7 @@ module _ (code : List Instruction) (n d top : ℕ) (s : Box) where
       let g = h .bound in
       let f = h .few in
       let l = lack-one p in
-      wrote (to (suc (s .label)) (set ν i v) (tallied Written (s .counts)) s) (before p k) (_, at .1 .2, tt) (obeys code n top s (at .1 .2) (fit-two n i j (omega (arith, at .1 .0, h .wide)) (omega (arith, at .1 .1, h .wide))))
+      wrote (to (suc (s .label)) (set ν i v) (tallied Written (s .counts)) s) (before p k) (_, at .1 .2, tt) (obeys code n top s (at .1 .2) (two-fit n i j (omega (arith, at .1 .0, h .wide)) (omega (arith, at .1 .1, h .wide))))
       (record { steps = refl; written = omega arith })
       (record {
         place = (at .0, at .1 .3, at .2, at .3);
@@ -237,7 +223,7 @@ module _ (code : List Instruction) (n d top : ℕ) (s : Box) where
       let g = h .bound in
       let f = h .few in
       let s′ : Box = to (suc (s .label)) ν′ (tallied Entry (s .counts)) s in
-      wrote s′ (testing c b p k) (_, at .1 .3, tt) (obeys code n top s (at .1 .3) (fit-two n c i below (omega (arith, at .1 .2, h .wide))) ∙ ap (λ (x : Bool). ifLow x s′) (is-true (leb v top) (le→leb v top v-low)))
+      wrote s′ (testing c b p k) (_, at .1 .3, tt) (obeys code n top s (at .1 .3) (two-fit n c i below (omega (arith, at .1 .2, h .wide))) ∙ ap (λ (x : Bool). ifLow x s′) (is-true (leb v top) (le→leb v top v-low)))
       (record { steps = refl; written = omega arith })
       (record {
         place = (at .1 .1, at .0, laid, record { bodyDeep = omega arith; afterDeep = omega arith; rest = at .2 });
@@ -366,7 +352,7 @@ module _ (code : List Instruction) (n d top : ℕ) (s : Box) where
       let none = quiet-some b (inLoop c b p k) (laid .full) in
       let q = h .paid in
       let g = h .bound in
-      silent (to (suc (s .label)) ν′ (tallied Down (s .counts)) s) (before b (inLoop c b p k)) (_, ap (instructionAt code) is ∙ laid .down, tt) (obeys code n top s (ap (instructionAt code) is ∙ laid .down) (fit-two n c c below below))
+      silent (to (suc (s .label)) ν′ (tallied Down (s .counts)) s) (before b (inLoop c b p k)) (_, ap (instructionAt code) is ∙ laid .down, tt) (obeys code n top s (ap (instructionAt code) is ∙ laid .down) (two-fit n c c below below))
       (record { steps = refl; written = omega arith })
       (record {
         place = (at .0, subst (λ (x : ℕ). Lays code n (c ∷ counters k) b (suc x) (at .0)) (sym is) (laid .body), (t, at .1, laid, at .3), omega arith);

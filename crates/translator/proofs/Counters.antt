@@ -2,7 +2,7 @@
 use Prim.Native.Nat.{ℕ, _≤_, _<_}
 use native.Mathlib.Omega.{arith}
 use Rattle.reader.specs.Sheet.{Sheet, plus, minus, loop, while}
-use Rattle.translator.specs.Counters.{firstCounter, insideLoop, behindLoop, behindWhile, countersEnd, sheetWidth}
+use Rattle.translator.specs.Counters.{firstCounter, insideLoop, behindLoop, behindWhile, countersEnd}
 
 -- counters are none of x0 to x31, and below N
 pub first-high : 32 ≤ firstCounter

@@ -4,7 +4,7 @@ use mathlib.Core.List.{List, _∷_}
 use Prim.Native.Nat.{ℕ, zero, suc, _+_, _*_, _≤_, _<_}
 use native.Mathlib.Nat.{add-zero, zero-add, le-trans}
 use native.Mathlib.Omega.{arith}
-use lib.ListN.{length, set, take, getD}
+use lib.ListN.{set, take}
 use lib.Seq.{take-set-lt, getD-set-other}
 use Rattle.reader.specs.Sheet.{Sheet, done, then, depth}
 use Rattle.reader.specs.Steps.{Next, went, goOn}
@@ -16,7 +16,7 @@ use Rattle.translator.specs.JumpCode.{Box, boxStart, boxSteps}
 use Rattle.translator.specs.Counters.{firstCounter, sheetWidth}
 use Rattle.translator.specs.Translation.{compiled}
 use Rattle.translator.specs.Standing.{Away, Around, outermost, inWhile, inLoop, counters, levels, owed, Spot, before, testing, lowering, Place, Live, restOf, pendingOf, owedOf, quiet, seen, StandsAt, Stands}
-use Rattle.translator.specs.Following.{Playable, Low, sheetStep, sheetSteps, Halted, BoxStepped, silently, asWritten, blocked, atHalt, BoxStepIsWrittenOrSilent, DoesNext, KeepsUp, BoxKeepsUp, StartStands, SpelledSheetIsPlayable, over, CorrectionStands, BeyondWidthIsFree, Settled, Agrees, StandingBoxAgrees, Owes, StepsAreAccounted, BoxStepsStand, BoxFollowsWritten}
+use Rattle.translator.specs.Following.{sheetStep, sheetSteps, Halted, silently, asWritten, blocked, atHalt, BoxStepIsWrittenOrSilent, DoesNext, BoxKeepsUp, StartStands, SpelledSheetIsPlayable, CorrectionStands, BeyondWidthIsFree, StandingBoxAgrees, StepsAreAccounted, BoxStepsStand, BoxFollowsWritten}
 use Rattle.translator.proofs.BoxStep.{run-path, counts-path, tail-set, pending-set, away-low, set-low, set-long, lack-some, silent, wrote, stuck, halted, step, obeys}
 use Rattle.translator.proofs.BoxSteps.{goes, Soon, soon, quiet-bound, at-halt, never-unfit}
 use Rattle.translator.proofs.Counters.{first-high, ends-above}

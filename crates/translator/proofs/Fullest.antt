@@ -6,7 +6,7 @@ use lib.Dec.{lit≤}
 use Rattle.reader.specs.Sheet.{Sheet, done, plus, minus, loop, while, then, Some, Whole, Fit}
 use Rattle.reader.specs.WrittenRun.{times}
 use Rattle.reader.proofs.Spelled.{whole-then}
-use Rattle.translator.specs.Sizes.{loopNest, whileNest, fullest, Fullest}
+use Rattle.translator.specs.Sizes.{loopNest, whileNest, Fullest}
 
 whole-times : (n : ℕ) (b q : Sheet) → Whole b → Whole q → Whole (times n b q)
 whole-times zero b q h g = g

@@ -1,6 +1,6 @@
 -- The box step takes exactly the published steps of GOTO programs.
 use mathlib.Core.Path.{_≡_, refl, sym, ap, subst, _∙_}
-use mathlib.Core.Bool.{Bool, true, false, _&&_}
+use mathlib.Core.Bool.{Bool, true, false}
 use mathlib.Core.List.{List}
 use mathlib.Core.Option.{Option, none, some}
 use Prim.Native.Nat.{ℕ, zero, suc, _+_, _-_, _≤_}
@@ -12,17 +12,9 @@ use Rattle.translator.specs.declared.types.Role.{Role}
 use Rattle.translator.specs.declared.types.Operation.{Operation}
 use Rattle.translator.specs.declared.types.Operation.the-variants.{Plus, Minus, If, Goto, Halt}
 use Rattle.translator.specs.declared.types.Instruction.{Instruction}
-use Rattle.translator.specs.JumpCode.{instruction, instructionAt, inside, fits, AllFit, Box, tallied, found, to, afterIf, obey, obeyFit, obeyAt, boxStep}
-use Rattle.translator.specs.GotoRules.{OperationAt, GotoStep, plusRule, minusRule, gotoRule, zeroRule, otherRule, TakesGotoRules, BoxStepIsPublished}
-use Rattle.translator.proofs.BoxStep.{is-true}
-
-and-left : (a b : Bool) → T (a && b) → T a
-and-left true b t = tt
-and-left false b t = t
-
-and-right : (a b : Bool) → T (a && b) → T b
-and-right true b t = t
-and-right false b t = absurd t
+use Rattle.translator.specs.JumpCode.{instruction, instructionAt, inside, fits, AllFit, Box, tallied, to, afterIf, obey, obeyFit, obeyAt}
+use Rattle.translator.specs.GotoRules.{GotoStep, plusRule, minusRule, gotoRule, zeroRule, otherRule, BoxStepIsPublished}
+use Rattle.translator.proofs.Fits.{is-true, and-left, and-right}
 
 -- where a published step leads, by what stands at the label
 abbrev Aimed : ℕ → ℕ → List ℕ → List ℕ → ℕ → Type 0

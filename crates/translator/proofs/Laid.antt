@@ -14,7 +14,7 @@ use Rattle.translator.proofs.Counters.{first-high, loop-counters, while-counte
 use Rattle.translator.specs.Standing.{Away, Lays, outermost, before, Place}
 use Rattle.translator.specs.declared.types.Role.{Role}
 use Rattle.translator.specs.declared.types.Role.the-variants.{Written, Test, Down, Jump}
-use Rattle.translator.specs.declared.types.Operation.the-variants.{Minus, Goto}
+use Rattle.translator.specs.declared.types.Operation.the-variants.{Goto}
 use Rattle.translator.specs.declared.types.Instruction.{Instruction}
 
 -- the instructions xs stand from label l on

@@ -8,3 +8,4 @@ pub mod GotoRules
 pub mod Sizes
 pub mod Width
 pub mod Fullest
+pub mod Fits

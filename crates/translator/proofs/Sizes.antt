@@ -1,17 +1,16 @@
 -- Sizes of flat forms and codes.
-use mathlib.Core.Path.{_≡_, refl, sym, ap, subst, _∙_}
-use mathlib.Core.List.{List, [], _∷_, _++_}
-use mathlib.Core.Option.{some}
-use Prim.Native.Nat.{ℕ, zero, suc, _+_, _*_, _≤_, _<_}
+use mathlib.Core.Path.{_≡_, refl, sym, ap, _∙_}
+use mathlib.Core.List.{List, [], _∷_}
+use Prim.Native.Nat.{ℕ, zero, suc, _+_, _*_, _≤_}
 use native.Mathlib.Nat.{mul-add, mul-suc, suc-mul}
 use native.Mathlib.Omega.{arith}
 use lib.ListN.{length, take, drop, length-append, length-drop}
 use lib.Seq.{length-take-le}
-use Rattle.reader.specs.Sheet.{Sheet, done, plus, minus, loop, while, Some, Whole, Within, size, depth, loops}
+use Rattle.reader.specs.Sheet.{Sheet, done, plus, minus, loop, while, Some, Whole, size, depth, loops}
 use Rattle.translator.specs.JumpCode.{halt}
-use Rattle.translator.specs.Translation.{FlatSheet, flatDone, flatPlus, flatMinus, flatWhile, flatFrom, flat, flatSize, codeSize, lay, compiled, flatRecordsFrom, flatRecords, flatPlaces}
+use Rattle.translator.specs.Translation.{FlatSheet, flatDone, flatPlus, flatMinus, flatWhile, flatFrom, flat, flatSize, codeSize, lay, flatRecordsFrom, flatPlaces}
 use Rattle.translator.specs.Counters.{insideLoop, behindLoop, behindWhile, firstCounter}
-use Rattle.translator.specs.Sizes.{assignments, whiles, FlatSizes, FlatSizeIsCounted, FlatHasAtMost320, CodeSizeIsCounted, CodeHasAtMost548}
+use Rattle.translator.specs.Sizes.{assignments, whiles, FlatSizeIsCounted, FlatHasAtMost320, CodeSizeIsCounted, CodeHasAtMost548}
 use Rattle.translator.proofs.Laid.{lay-length}
 
 flat-size : (p : Sheet) (c : ℕ) → flatSize (flatFrom c p) ≡ size p + 2 * loops p

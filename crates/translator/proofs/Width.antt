@@ -1,25 +1,24 @@
 -- N of a sheet's code, and that every instruction of it fits.
-use mathlib.Core.Path.{_≡_, refl, sym, ap, subst, _∙_}
-use mathlib.Core.Bool.{Bool, true, false, _&&_}
+use mathlib.Core.Path.{_≡_, refl, ap, subst, _∙_}
 use mathlib.Core.Logic.{⊎-elim}
 use mathlib.Core.List.{List, [], _∷_, _++_}
-use mathlib.Core.Option.{Option, some}
+use mathlib.Core.Option.{some}
 use Prim.Native.Nat.{ℕ, zero, suc, _+_, _≤_, _<_, max}
 use native.Mathlib.Omega.{arith}
-use lib.Dec.{T, leb, ltb, le→leb, lt→ltb}
+use lib.Dec.{T}
 use lib.ListN.{length, getElem?, length-append}
 use Rattle.std.proofs.shelf.Tests.{cases-lt}
-use Rattle.reader.specs.Sheet.{Sheet, done, plus, minus, loop, while, Fit, Within, loops}
+use Rattle.reader.specs.Sheet.{Sheet, done, plus, minus, loop, while, Fit, loops}
 use Rattle.translator.specs.declared.types.Role.the-variants.{Jump}
-use Rattle.translator.specs.declared.types.Operation.{Operation}
-use Rattle.translator.specs.declared.types.Operation.the-variants.{Plus, Minus, If, Goto}
+use Rattle.translator.specs.declared.types.Operation.the-variants.{Goto}
 use Rattle.translator.specs.declared.types.Instruction.{Instruction}
-use Rattle.translator.specs.JumpCode.{instruction, halt, instructionAt, inside, fits, AllFit}
+use Rattle.translator.specs.JumpCode.{instruction, halt, instructionAt, fits, AllFit}
 use Rattle.translator.specs.Counters.{firstCounter, insideLoop, behindLoop, behindWhile, countersEnd, sheetWidth}
 use Rattle.translator.specs.Translation.{flatFrom, flat, lay, codeSize, compiled}
-use Rattle.translator.specs.Width.{named, width}
-use Rattle.translator.specs.Sizes.{CodeWidthIsSheetWidth, WholeCode, CodeIsWhole}
+use Rattle.translator.specs.Width.{width}
+use Rattle.translator.specs.Sizes.{CodeWidthIsSheetWidth, CodeIsWhole}
 use Rattle.translator.proofs.Laid.{lay-length}
+use Rattle.translator.proofs.Fits.{two-fit, label-fit, test-fit}
 
 width-low : (xs : List Instruction) → 32 ≤ width xs
 width-low [] = omega arith
@@ -117,19 +116,6 @@ every-fit : (n : ℕ) (c : List Instruction) → Every n (length c) c → AllFit
 every-fit n c h zero x e = let z : _≡_ {A = ℕ} 0 1 = cc in absurd (omega arith)
 every-fit n c h (suc m) x e = every-at n (length c) c m x h e
 
-and-true : (a b : Bool) → T a → T b → T (a && b)
-and-true true b ta tb = tb
-and-true false b ta tb = ta
-
-two-fit : (n i j : ℕ) → i < n → j < n → T (ltb i n && ltb j n)
-two-fit n i j hi hj = and-true (ltb i n) (ltb j n) (lt→ltb i n hi) (lt→ltb j n hj)
-
-label-fit : (len k : ℕ) → 1 ≤ k → k ≤ len → T (inside len k)
-label-fit len k low high = and-true (leb 1 k) (leb k len) (le→leb 1 k low) (le→leb k len high)
-
-test-fit : (n len i k : ℕ) → i < n → 1 ≤ k → k ≤ len → T (fits n len (If i k))
-test-fit n len i k h low high = and-true (ltb i n) (inside len k) (lt→ltb i n h) (label-fit len k low high)
-
 -- the code from label l on, with one instruction more behind it
 every-lay : (n len : ℕ) (p : Sheet) (c l : ℕ) → Fit p → 32 ≤ c → countersEnd c p ≤ n → 1 ≤ l → l + codeSize (flatFrom c p) ≤ len → Every n len (lay l (flatFrom c p))
 every-lay n len done c l g hc hn hl h = tt
@@ -150,7 +136,7 @@ every-lay n len (loop i b p) c l g hc hn hl h =
     let body = every-lay n len b (insideLoop c) lb (g .1) (omega arith) (omega arith) (omega arith) (omega arith) in
     let after = every-lay n len p (behindLoop c b) lp (g .2) (omega arith) (omega arith) (omega arith) (omega arith) in
     let rest = every-append n len (lay lb b′) (instruction Jump (Goto (suc l)) ∷ lay lp p′) body (label-fit len (suc l) (omega arith) (omega arith), after) in
-    (two-fit n c i (omega arith) (omega arith), (test-fit n len c lp (omega arith) (omega arith) (omega arith), (two-fit n c c (omega arith) (omega arith), rest)))
+    (two-fit n c i (omega arith) (omega arith), (test-fit n len c lp (omega arith) (label-fit len lp (omega arith) (omega arith)), (two-fit n c c (omega arith) (omega arith), rest)))
 every-lay n len (while i b p) c l g hc hn hl h =
     let hi = g .0 in
     let b′ = flatFrom c b in
@@ -158,7 +144,7 @@ every-lay n len (while i b p) c l g hc hn hl h =
     let lp = suc (suc l + codeSize b′) in
     let body = every-lay n len b c (suc l) (g .1) hc (omega arith) (omega arith) (omega arith) in
     let after = every-lay n len p (behindWhile c b) lp (g .2) (omega arith) (omega arith) (omega arith) (omega arith) in (
-      test-fit n len i lp (omega arith) (omega arith) (omega arith),
+      test-fit n len i lp (omega arith) (label-fit len lp (omega arith) (omega arith)),
       every-append n len (lay (suc l) b′) (instruction Jump (Goto l) ∷ lay lp p′) body (label-fit len l (omega arith) (omega arith), after),
     )
 

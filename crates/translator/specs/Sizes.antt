@@ -1,6 +1,6 @@
 -- How long flat forms and codes are, and which registers and labels a code names.
 use mathlib.Core.Path.{_≡_}
-use mathlib.Core.List.{List, _∷_, []}
+use mathlib.Core.List.{List}
 use mathlib.Core.Option.{some}
 use Prim.Native.Nat.{ℕ, zero, suc, _+_, _*_, _≤_}
 use lib.ListN.{length}
