@@ -9,3 +9,4 @@ pub mod Sizes
 pub mod Width
 pub mod Fullest
 pub mod Fits
+pub mod Filing

@@ -20,7 +20,7 @@ use Rattle.translator.specs.Sizes.{CodeWidthIsSheetWidth, CodeIsWhole}
 use Rattle.translator.proofs.Laid.{lay-length}
 use Rattle.translator.proofs.Fits.{two-fit, label-fit, test-fit}
 
-width-low : (xs : List Instruction) → 32 ≤ width xs
+pub width-low : (xs : List Instruction) → 32 ≤ width xs
 width-low [] = omega arith
 width-low (x ∷ xs) = let h = width-low xs in omega arith
 

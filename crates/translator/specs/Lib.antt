@@ -7,3 +7,5 @@ pub mod GotoRules
 pub mod Standing
 pub mod Following
 pub mod Sizes
+pub mod Drafts
+pub mod Seals

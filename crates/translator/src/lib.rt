@@ -1,2 +1,3 @@
+pub mod draft;
 pub mod laws;
 pub mod types;
