@@ -10,3 +10,5 @@ pub mod Width
 pub mod Fullest
 pub mod Fits
 pub mod Filing
+pub mod Overwriting
+pub mod CodeLaid

@@ -13,14 +13,14 @@ use Rattle.translator.specs.Counters.{insideLoop, behindLoop, behindWhile, fir
 use Rattle.translator.specs.Sizes.{assignments, whiles, FlatSizeIsCounted, FlatHasAtMost320, CodeSizeIsCounted, CodeHasAtMost548}
 use Rattle.translator.proofs.Laid.{lay-length}
 
-flat-size : (p : Sheet) (c : ℕ) → flatSize (flatFrom c p) ≡ size p + 2 * loops p
+pub flat-size : (p : Sheet) (c : ℕ) → flatSize (flatFrom c p) ≡ size p + 2 * loops p
 flat-size done c = refl
 flat-size (plus i j k p) c = let h = flat-size p c in omega arith
 flat-size (minus i j k p) c = let h = flat-size p c in omega arith
 flat-size (loop i b p) c = let h = flat-size b (insideLoop c) in let g = flat-size p (behindLoop c b) in omega arith
 flat-size (while i b p) c = let h = flat-size b c in let g = flat-size p (behindWhile c b) in omega arith
 
-records-length : (f : FlatSheet) (n : ℕ) → length (flatRecordsFrom n f) ≡ flatSize f
+pub records-length : (f : FlatSheet) (n : ℕ) → length (flatRecordsFrom n f) ≡ flatSize f
 records-length flatDone n = refl
 records-length (flatPlus r i j k f) n = ap suc (records-length f (suc n))
 records-length (flatMinus r i j k f) n = ap suc (records-length f (suc n))
@@ -29,7 +29,7 @@ records-length (flatWhile r i b f) n =
     let ef = records-length f (suc n + flatSize b) in
     ap suc (length-append (flatRecordsFrom (suc n) b) _ ∙ (λ i. eb i + ef i))
 
-places-length : (p : Sheet) (xs : List ℕ) → length xs ≡ size p → length (flatPlaces p xs) ≡ size p + 2 * loops p
+pub places-length : (p : Sheet) (xs : List ℕ) → length xs ≡ size p → length (flatPlaces p xs) ≡ size p + 2 * loops p
 places-length done [] h = refl
 places-length done (x ∷ xs) h = absurd (omega arith)
 places-length (plus i j k p) [] h = absurd (omega arith)
@@ -53,7 +53,7 @@ places-length (while i b p) (x ∷ xs) h =
     let both = length-append (flatPlaces b (take (size b) xs)) (flatPlaces p (drop (size b) xs)) in
     omega arith
 
-code-size : (p : Sheet) (c : ℕ) → codeSize (flatFrom c p) ≡ assignments p + 4 * loops p + 2 * whiles p
+pub code-size : (p : Sheet) (c : ℕ) → codeSize (flatFrom c p) ≡ assignments p + 4 * loops p + 2 * whiles p
 code-size done c = refl
 code-size (plus i j k p) c = let h = code-size p c in omega arith
 code-size (minus i j k p) c = let h = code-size p c in omega arith

@@ -9,3 +9,4 @@ pub mod Following
 pub mod Sizes
 pub mod Drafts
 pub mod Seals
+pub mod Laying

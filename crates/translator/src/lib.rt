@@ -1,3 +1,4 @@
 pub mod draft;
 pub mod laws;
+mod lay;
 pub mod types;

@@ -82,7 +82,7 @@ impl<'a> Draft<'a> {
     }
 
     // The label of the instruction that will be laid next.
-    fn next_label(&self) -> usize
+    pub(crate) fn next_label(&self) -> usize
         ensures { λ r. ⌜ r ≡ nextLabel (now (self .entry)) ⌝ }
     {
         let n = self.len();
