@@ -6,10 +6,12 @@ use Prim.Native.Nat.{ℕ, zero, suc, _+_, _-_, _^_, _<_, _≤_}
 use native.Mathlib.Nat.{add-zero}
 use native.Mathlib.Omega.{arith}
 use lib.Dec.{T}
-use lib.ListN.{length, getD, set, getElem?, length-set}
+use lib.ListN.{length, getD, set, take, replicate, getElem?, length-set, length-append, length-replicate}
 use Rattle.std.specs.Results.{Cases}
 use Rattle.std.specs.declared.result.Result.{Result}
 use Rattle.std.specs.declared.result.Result.the-variants.{Ok, Err}
+use Rattle.std.proofs.shelf.Lists.{take-at}
+use Rattle.reader.specs.Sheet.{Sheet}
 use Rattle.reader.specs.Tables.{overwrite}
 use Rattle.reader.specs.declared.types.Placed.{Placed}
 use Rattle.reader.specs.declared.types.Refusal.{Refusal}
@@ -25,10 +27,10 @@ use Rattle.translator.specs.declared.types.Operation.the-variants.{If, Goto}
 use Rattle.translator.specs.declared.types.Instruction.{Instruction}
 use Rattle.translator.specs.declared.types.Flat.{Flat}
 use Rattle.translator.specs.JumpCode.{instruction, halt}
-use Rattle.translator.specs.Translation.{FlatSheet, flatDone, flatPlus, flatMinus, flatWhile, flatSize, codeSize, lay, flatRecordsFrom}
-use Rattle.translator.specs.Drafts.{draftMemory, laid, laidCode, nextLabel, isOpen, OpenAt, aimed, Appended, Replaced, Unchanged, Full}
-use Rattle.translator.specs.Laying.{Stands, FlatSpan, assigned, CodeLaid, CodeLeft, StatementLaid, NoRoom}
-use Rattle.translator.proofs.Overwriting.{patched, kept, length-overwrite}
+use Rattle.translator.specs.Translation.{FlatSheet, flatDone, flatPlus, flatMinus, flatWhile, flat, flatSize, codeSize, lay, compiled, flatRecordsFrom}
+use Rattle.translator.specs.Drafts.{draftMemory, laid, laidCode, nextLabel, isOpen, OpenAt, aimed, Appended, Replaced, Unchanged, Cleared, Full}
+use Rattle.translator.specs.Laying.{Stands, FlatSpan, assigned, CodeLaid, CodeLeft, StatementLaid, NoRoom, Coded}
+use Rattle.translator.proofs.Overwriting.{patched, kept, length-overwrite, overwrite-append, take-overwrite}
 use Rattle.translator.proofs.Filing.{length-filed, getD-filed}
 use Rattle.translator.proofs.Laid.{lay-length}
 use Rattle.translator.proofs.Sizes.{records-length}
@@ -337,3 +339,48 @@ jump-no-room rs a b f x d e k v h w q z =
     let r = appended-room x d e h in
     let m = w .counted in
     omega arith
+
+-- the whole code
+
+code-length : (p : Sheet) → length (compiled p) ≡ suc (codeSize (flat p))
+code-length p = let e = length-append (lay 1 (flat p)) (halt ∷ []) in let f = lay-length (flat p) 1 in omega arith
+
+pub coded : (p : Sheet) (d d₁ d₂ d₃ : Draft) → laid d ≡ 0 → CodeLaid (flat p) d d₁ → length (draftMemory d₁) ≡ length (draftMemory d) → Appended halt d₁ d₂ → Cleared d₂ d₃ → Coded p d d₃
+coded p d d₁ d₂ d₃ none w r h z =
+    let X = lay 1 (flat p) in
+    let c = compiled p in
+    let m = draftMemory d in
+    let n₁ = w .counted in
+    let n₂ = h .counted in
+    let n₃ = z .counted in
+    let room = h .room in
+    let r₂ = appended-room halt d₁ d₂ h in
+    let lc = code-length p in
+    let lX = lay-length (flat p) 1 in
+    let m₁ : draftMemory d₁ ≡ overwrite m 0 X = w .filled ∙ ap (λ (k : ℕ). overwrite m k (lay (suc k) (flat p))) none in
+    let at : laid d₁ ≡ 0 + length X = omega arith in
+    let m₂ : draftMemory d₂ ≡ overwrite m 0 c =
+    h .filled ∙ (ap (λ (k : List Instruction). set k (laid d₁) halt) m₁ ∙ (ap (λ (k : ℕ). set (overwrite m 0 X) k halt) at ∙ sym (overwrite-append m 0 X (halt ∷ [])))) in
+    let full : laid d₂ ≡ 0 + length c = omega arith in
+    let front : laidCode d₂ ≡ c =
+    ap (λ (k : ℕ). take k (draftMemory d₂)) full ∙ (ap (take (0 + length c)) m₂ ∙ take-overwrite m 0 c (omega arith)) in
+    let rest : length (draftMemory d₂) - laid d₂ ≡ length m - length c = omega arith in
+    let m₃ : draftMemory d₃ ≡ c ++ replicate (length m - length c) halt =
+    z .filled ∙ (ap (λ (k : List Instruction). k ++ replicate (length (draftMemory d₂) - laid d₂) halt) front ∙ ap (λ (k : ℕ). c ++ replicate k halt) rest) in
+    record {
+      code = ap (λ (k : List Instruction). take (laid d₃) k) m₃ ∙ take-at c (replicate (length m - length c) halt) (laid d₃) (omega arith);
+      filled = m₃;
+    }
+
+pub cleared-room : (d e : Draft) → Cleared d e → length (draftMemory e) ≡ length (draftMemory d)
+cleared-room d e z =
+    let a = length-append (laidCode d) (replicate (length (draftMemory d) - laid d) halt) in
+    let b = length-replicate (length (draftMemory d) - laid d) halt in
+    let c = length-filed (d .table) in
+    ap length (z .filled) ∙ omega arith
+
+pub flats-no-room : (p : Sheet) (d : Draft) → laid d ≡ 0 → NoRoom (flat p) d → length (draftMemory d) < length (compiled p)
+flats-no-room p d none h = let e = code-length p in omega arith
+
+pub halt-no-room : (p : Sheet) (d e : Draft) → laid d ≡ 0 → CodeLaid (flat p) d e → length (draftMemory e) ≡ length (draftMemory d) → Full e → length (draftMemory d) < length (compiled p)
+halt-no-room p d e none w r h = let l = code-length p in let c = w .counted in omega arith

@@ -1,10 +1,11 @@
 -- Laying the code of flat statements into a draft.
 use mathlib.Core.Path.{_≡_}
-use mathlib.Core.List.{List, [], _∷_, map}
+use mathlib.Core.List.{List, [], _∷_, _++_, map}
 use mathlib.Core.Option.{some}
-use Prim.Native.Nat.{ℕ, suc, _+_, _<_}
-use lib.ListN.{length, getElem?}
+use Prim.Native.Nat.{ℕ, suc, _+_, _-_, _<_}
+use lib.ListN.{length, getElem?, replicate}
 use Rattle.reader.specs.Tables.{overwrite}
+use Rattle.reader.specs.Sheet.{Sheet}
 use Rattle.reader.specs.declared.types.Placed.{Placed}
 use Rattle.reader.specs.declared.types.Kind.{Kind}
 use Rattle.reader.specs.declared.types.Kind.the-variants.{Zero, Plus, Minus, Loop, While}
@@ -13,8 +14,9 @@ use Rattle.translator.specs.declared.draft.Draft.{Draft}
 use Rattle.translator.specs.declared.types.Operation.{Operation}
 use Rattle.translator.specs.declared.types.Operation.the-variants as operation
 use Rattle.translator.specs.declared.types.Flat.{Flat}
-use Rattle.translator.specs.Drafts.{draftMemory, laid}
-use Rattle.translator.specs.Translation.{FlatSheet, flatSize, codeSize, lay, flatRecordsFrom}
+use Rattle.translator.specs.JumpCode.{halt}
+use Rattle.translator.specs.Drafts.{draftMemory, laid, laidCode}
+use Rattle.translator.specs.Translation.{FlatSheet, flatSize, codeSize, lay, compiled, flatRecordsFrom}
 
 -- the elements xs stand in ys from index a on
 abbrev pub Stands : {A : Type 0} → List A → ℕ → List A → Type 0
@@ -53,3 +55,8 @@ pub record StatementLaid (rs : List (Placed Flat)) (b : ℕ) (f : FlatSheet) (d 
 -- the memory of a draft has no room for the code of f too
 abbrev pub NoRoom : FlatSheet → Draft → Type 0
 NoRoom f d = length (draftMemory d) < laid d + codeSize f
+
+-- the draft d became e: it holds the code of p, and zero instructions behind it
+pub record Coded (p : Sheet) (d e : Draft) : Type 0 where
+  pub code : laidCode e ≡ compiled p
+  pub filled : draftMemory e ≡ compiled p ++ replicate (length (draftMemory d) - length (compiled p)) halt

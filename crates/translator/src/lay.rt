@@ -4,10 +4,12 @@ ghost use Prim.Native.Nat.{ℕ, _<_, _^_};
 ghost use lib.ListN.{length};
 ghost use Rattle.std.specs.Results.{Cases};
 ghost use Rattle.reader.specs.declared.types.Refusal.the-variants.{CodeFull};
-ghost use Rattle.translator.specs.Drafts.{draftMemory, draftLent};
-ghost use Rattle.translator.specs.Translation.{FlatSheet};
-ghost use Rattle.translator.specs.Laying.{FlatSpan, CodeLaid, StatementLaid, NoRoom, assigned};
+ghost use Rattle.reader.specs.Sheet.{Sheet};
+ghost use Rattle.translator.specs.Drafts.{draftMemory, draftLent, laid};
+ghost use Rattle.translator.specs.Translation.{FlatSheet, flat, compiled};
+ghost use Rattle.translator.specs.Laying.{FlatSpan, CodeLaid, StatementLaid, NoRoom, Coded, assigned};
 use crate::draft::Draft;
+use crate::draft::HALT;
 use crate::types::Flat;
 use crate::types::Instruction;
 use crate::types::Operation;
@@ -90,7 +92,7 @@ fn lay_statement(flats: &[Placed<Flat>], at: usize, draft: &mut Draft) -> Result
 }
 
 // Lays the statements from one index up to another.
-pub(crate) fn lay_flats(
+fn lay_flats(
     flats: &[Placed<Flat>],
     from: usize,
     to: usize,
@@ -110,5 +112,24 @@ pub(crate) fn lay_flats(
             Err(e) => return Err(e),
         };
     }
+    Ok(())
+}
+
+// Lays the code of a whole sheet, with HALT, into an empty draft, and clears the memory behind it.
+pub(crate) fn lay_code(flats: &[Placed<Flat>], to: usize, draft: &mut Draft) -> Result<(), Refusal>
+    requires { ⌜ ((p : Sheet) × FlatSpan (now flats) 0 to (flat p)) ⌝ ∗ ⌜ length (draftMemory (now draft)) < 2 ^ 60 ⌝ ∗ ⌜ laid (now draft) ≡ 0 ⌝ }
+    ensures laid { λ r. ⌜ Cases r
+        (λ _. ((p : Sheet) → FlatSpan (now (flats .entry)) 0 to (flat p) → Coded p (now (draft .entry)) (now (draft .exit))))
+        (λ e. (e ≡ CodeFull) × ((p : Sheet) → FlatSpan (now (flats .entry)) 0 to (flat p) → length (draftMemory (now (draft .entry))) < length (compiled p))) ⌝ }
+    ensures room { λ _. ⌜ length (draftMemory (now (draft .exit))) ≡ length (draftMemory (now (draft .entry))) ⌝ }
+    ensures lent { λ _. ⌜ draftLent (now (draft .exit)) ≡ draftLent (now (draft .entry)) ⌝ }
+{
+    if let Err(e) = lay_flats(flats, 0, to, draft) {
+        return Err(e);
+    }
+    if let Err(e) = draft.lay(HALT) {
+        return Err(e);
+    }
+    draft.clear_rest();
     Ok(())
 }
