@@ -12,3 +12,4 @@ pub mod Fits
 pub mod Filing
 pub mod Overwriting
 pub mod CodeLaid
+pub mod FlatFiled

@@ -10,3 +10,4 @@ pub mod Sizes
 pub mod Drafts
 pub mod Seals
 pub mod Laying
+pub mod Flattening

@@ -1,4 +1,5 @@
 pub mod draft;
+mod flatten;
 pub mod laws;
 mod lay;
 pub mod types;
