@@ -1,11 +1,11 @@
 -- What single bytes, runs and digits of a text say.
 use mathlib.Core.Path.{_≡_, refl, sym, ap, subst, _∙_}
-use mathlib.Core.Bool.{Bool, true, false, cond, _&&_}
+use mathlib.Core.Bool.{Bool, true, false, cond, not, _&&_}
 use mathlib.Core.List.{List, [], _∷_, _++_}
 use Prim.Native.Nat.{ℕ, suc, _+_, _-_, _*_, _<_, _≤_}
 use native.Mathlib.Numerals.{add-one}
 use native.Mathlib.Omega.{arith}
-use borrow.Author.Tests.{eqb-true, eqb-false, eq-eqb, ne-eqb}
+use borrow.Author.Tests.{clash, eqb-true, eqb-false, eq-eqb, ne-eqb}
 use lib.Dec.{T, eqb, leb, leb→le}
 use lib.ListN.{length, getD, take, drop, length-drop}
 use Rattle.std.specs.Orderings.{Decides}
@@ -144,3 +144,8 @@ other-digits (d ∷ ds) h f = (there, back f)
 pub digits-of : {w : List ℕ} → Numeral w → allDigits w ≡ true
 digits-of just-zero = refl
 digits-of (some-digits {d} {ds} g k a) = other-digits (d ∷ ds) (omega arith) (λ e. omega arith) .1 (some-digits g k a)
+
+-- no letter or digit, by the answer of a test
+pub no-letter : (b : ℕ) (r : Bool) → r ≡ asciiAlnum b → (not r ≡ true → T (asciiAlnum b) → ⊥) × ((T (asciiAlnum b) → ⊥) → not r ≡ true)
+no-letter b true e = ((λ f h. clash f), λ f. absurd (f (truth (sym e))))
+no-letter b false e = ((λ f h. not-both (sym e) h), λ f. refl)

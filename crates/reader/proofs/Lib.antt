@@ -1,3 +1,14 @@
+pub mod Exampled
+pub mod OneAnswer
+pub mod Sheets
+pub mod Bodies
+pub mod Refusing
+pub mod Placing
+pub mod Parsing
+pub mod Filing
+pub mod Overwriting
+pub mod Halting
+pub mod Expecting
 pub mod Tokens
 pub mod Words
 pub mod Lexing
@@ -17,3 +28,10 @@ pub mod Uniquely
 pub mod WrittenRules
 pub mod Spelled
 pub mod Steps
+pub mod Spans
+pub mod Checking
+pub mod Printing
+pub mod Digits
+pub mod Pages
+pub mod Statements
+pub mod Prints

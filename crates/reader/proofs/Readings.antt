@@ -4,13 +4,13 @@ use mathlib.Core.Bool.{Bool, true, false, cond, _&&_}
 use mathlib.Core.List.{List, [], _∷_, _++_, append-cancel-left}
 use Prim.Native.Nat.{ℕ, zero, suc, _+_, _≤_, _<_}
 use native.Mathlib.Omega.{arith}
-use lib.Chars.{codes}
 use lib.Dec.{T, eqb, leb, leb→le}
 use lib.ListN.{length, getD}
 use Rattle.std.specs.Text.{asciiAlnum, asciiDigit}
 use Rattle.std.proofs.shelf.Ways.{tells}
 use Rattle.reader.specs.Symbols.{Symbol, LOOP, WHILE, DO, END, number, register, assign, unequal, plus-sign, minus-sign, semicolon, strange, stray, PlacedSymbol, symbols, heads, placed}
 use Rattle.reader.specs.Text.{Blank, space, line-feed, Mark, mark-assign, mark-unequal, mark-plus, mark-minus, mark-semicolon, Numeral, just-zero, some-digits, value, Word, word-loop, word-while, word-do, word-end, word-number, word-register, Means, a-word, no-word, AllAlnum, Stops, Reads, the-end, a-blank, a-mark, a-run, a-stray}
+use Rattle.reader.specs.Printed.{bytesOf}
 
 pub both-hold : (a b : Bool) → T (a && b) → T a × T b
 both-hold true b h = (tt, h)
@@ -30,22 +30,6 @@ mark-symbol r mark-unequal = refl
 mark-symbol r mark-plus = refl
 mark-symbol r mark-minus = refl
 mark-symbol r mark-semicolon = refl
-
--- the bytes of a mark
-abbrev bytesOf : Symbol → List ℕ
-bytesOf LOOP = []
-bytesOf WHILE = []
-bytesOf DO = []
-bytesOf END = []
-bytesOf (number c) = []
-bytesOf (register i) = []
-bytesOf assign = codes ":="
-bytesOf unequal = codes "!="
-bytesOf plus-sign = codes "+"
-bytesOf minus-sign = codes "-"
-bytesOf semicolon = codes ";"
-bytesOf stray = []
-bytesOf strange = []
 
 mark-bytes : {m : List ℕ} {s : Symbol} → Mark m s → m ≡ bytesOf s
 mark-bytes mark-assign = refl

@@ -121,7 +121,7 @@ starting-append b [] ys = refl
 starting-append b (x ∷ xs) ys = starting-append (separating x) xs ys
 
 -- no statement begins behind a whole sheet
-starting-spelled : {xs : List Symbol} {p : Sheet} (b : ℕ) → Spells xs p → starting b xs ≡ 0
+pub starting-spelled : {xs : List Symbol} {p : Sheet} (b : ℕ) → Spells xs p → starting b xs ≡ 0
 unfolding starting
 starting-spelled b adds = refl
 starting-spelled b subtracts = refl

@@ -13,3 +13,11 @@ pub mod Lexing
 pub mod Steps
 pub mod WrittenRun
 pub mod WrittenRules
+pub mod Expecting
+pub mod Parsing
+pub mod Checks
+pub mod Printed
+pub mod Printing
+pub mod PrintClaims
+pub mod Pages
+pub mod Words

@@ -150,7 +150,7 @@ fn number_lexeme(word: &[u8]) -> Result<Lexeme, Refusal>
 }
 
 // What a token says.
-fn token_lexeme(token: Token) -> Result<Lexeme, Refusal>
+pub(crate) fn token_lexeme(token: Token) -> Result<Lexeme, Refusal>
     requires { ⌜ Sorted token ⌝ }
     ensures { λ r. ⌜ TokenTold (token .entry) r ⌝ }
 {
@@ -166,7 +166,7 @@ fn token_lexeme(token: Token) -> Result<Lexeme, Refusal>
 }
 
 // How many bytes a token takes.
-fn width(token: Token) -> usize
+pub(crate) fn width(token: Token) -> usize
     ensures { λ r. ⌜ r ≡ widthOf (token .entry) ⌝ }
 {
     match token {
@@ -218,7 +218,10 @@ fn word_token<'a>(word: &'a [u8]) -> Token<'a>
 }
 
 // The first token from `from` on; none at the text's end.
-fn next_token<'a>(text: &'a [u8], from: usize) -> Result<Option<Placed<Token<'a>>>, Placed<Refusal>>
+pub(crate) fn next_token<'a>(
+    text: &'a [u8],
+    from: usize,
+) -> Result<Option<Placed<Token<'a>>>, Placed<Refusal>>
     ensures { λ r. ⌜ TokenRead (now (text .entry)) from r ⌝ }
 {
     let place = skip_blanks(text, from);

@@ -1,4 +1,5 @@
 mod filing;
+mod sizes;
 
 // A filing table over lent memory, filled from the front.
 #[derive(Drop)]

@@ -45,6 +45,14 @@ pub enum Token<'a> {
     Semicolon,
 }
 
+// A word of the text: its part of the text, and where that part lies. An empty one has length 0.
+#[derive(Clone, Copy, Debug)]
+pub struct Word<'a> {
+    pub start: usize,
+    pub length: usize,
+    pub bytes: &'a [u8],
+}
+
 // What a token says, apart from the bytes that say it.
 #[derive(Clone, Copy, Debug, PartialEq, Eq)]
 pub enum Lexeme {
@@ -81,3 +89,15 @@ pub struct Statement {
     pub constant: u32,
     pub end: usize,
 }
+
+// What memory for records holds where it holds none.
+pub const ZERO_RECORD: Placed<Statement> = Placed {
+    place: 0,
+    item: Statement {
+        kind: Kind::Zero,
+        target: 0,
+        source: 0,
+        constant: 0,
+        end: 0,
+    },
+};

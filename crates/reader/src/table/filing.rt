@@ -1,6 +1,6 @@
 ghost use mathlib.Core.Path.{_≡_};
 ghost use mathlib.Core.List.{List, _++_};
-ghost use Prim.Native.Nat.{ℕ, suc, _+_, _-_, _<_, _≤_};
+ghost use Prim.Native.Nat.{ℕ, suc, min, _+_, _-_, _<_, _≤_};
 ghost use lib.ListN.{length, getD, set, take, replicate};
 ghost use denote.Ref.{name};
 ghost use Rattle.reader.specs.Tables.{memory, count, lent, Filed, Found, Amended};
@@ -16,18 +16,14 @@ impl<'a, T: Copy> Table<'a, T> {
         Table { cells, filed: 0 }
     }
 
-    // How many elements are filed.
-    pub fn len(&self) -> usize
-        ensures { λ r. ⌜ r ≡ count (now (self .entry)) ⌝ }
+    // A table over `cells` of which the first ones are filed already: `filed` of them, or all where there are fewer.
+    pub fn over(cells: &'a mut [T], filed: usize) -> Self
+        ensures count { λ r. ⌜ count r ≡ min filed (length (now (cells .entry))) ⌝ }
+        ensures memory { λ r. ⌜ memory r ≡ now (cells .entry) ⌝ }
+        ensures lent { λ r. ⌜ lent r ≡ name (cells .entry) ⌝ }
     {
-        self.filed
-    }
-
-    // How many elements there is memory for.
-    pub fn room(&self) -> usize
-        ensures { λ r. ⌜ r ≡ length (memory (now (self .entry))) ⌝ }
-    {
-        self.cells.len()
+        let filed = filed.min(cells.len());
+        Table { cells, filed }
     }
 
     // Files `x` behind the others and answers its index; None where the memory is full.
