@@ -30,7 +30,8 @@ use Rattle.translator.specs.JumpCode.{instruction, halt}
 use Rattle.translator.specs.Translation.{FlatSheet, flatDone, flatPlus, flatMinus, flatWhile, flat, flatSize, codeSize, lay, compiled, flatRecordsFrom}
 use Rattle.translator.specs.Drafts.{draftMemory, laid, laidCode, nextLabel, isOpen, OpenAt, aimed, Appended, Replaced, Unchanged, Cleared, Full}
 use Rattle.translator.specs.Laying.{Stands, FlatSpan, assigned, CodeLaid, CodeLeft, StatementLaid, NoRoom, Coded}
-use Rattle.translator.proofs.Overwriting.{patched, kept, length-overwrite, overwrite-append, take-overwrite}
+use Rattle.reader.proofs.Overwriting.{length-overwrite, overwrite-append}
+use Rattle.translator.proofs.Overwriting.{patched, kept, take-overwrite}
 use Rattle.translator.proofs.Filing.{length-filed, getD-filed}
 use Rattle.translator.proofs.Laid.{lay-length}
 use Rattle.translator.proofs.Sizes.{records-length}

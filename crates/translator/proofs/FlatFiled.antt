@@ -4,7 +4,7 @@ use mathlib.Core.List.{List, [], _∷_, _++_}
 use mathlib.Core.Option.{some}
 use Prim.Native.Nat.{ℕ, zero, suc, _+_, _*_, _-_, _^_, _<_, _≤_}
 use native.Mathlib.Omega.{arith}
-use lib.ListN.{length, getD, set, take, drop, getElem?, length-set, length-append, length-take, length-drop}
+use lib.ListN.{length, getD, set, take, drop, replicate, getElem?, length-set, length-append, length-take, length-drop}
 use Rattle.reader.specs.Sheet.{Sheet, done, plus, minus, loop, while, size, loops}
 use Rattle.reader.specs.declared.table.Table.{Table}
 use Rattle.reader.specs.declared.types.Placed.{Placed}
@@ -18,10 +18,12 @@ use Rattle.translator.specs.declared.types.Role.{Role}
 use Rattle.translator.specs.declared.types.Role.the-variants as role
 use Rattle.translator.specs.declared.types.Flat.{Flat}
 use Rattle.translator.specs.Counters.{countersEnd}
-use Rattle.translator.specs.Translation.{FlatSheet, flatFrom, flatSize, flatRecordsFrom, flatPlaces, flatsWithPlaces}
+use Rattle.translator.specs.Translation.{FlatSheet, flatFrom, flat, flatSize, placedFlats, flatRecordsFrom, flatPlaces, flatsWithPlaces}
 use Rattle.translator.specs.Laying.{Stands}
-use Rattle.translator.specs.Flattening.{RecordSpan, flatted, flatOf, InMemory, OneFiled, Same, FlatsFiled, FlatsLeft, StatementFlat, FlatsOver, Steady, LoopOpened}
-use Rattle.translator.proofs.Overwriting.{overwrite-append, replaced, length-overwrite}
+use Rattle.translator.specs.Flattening.{RecordSpan, flatted, flatOf, InMemory, OneFiled, Same, FlatsFiled, FlatsLeft, StatementFlat, FlatsOver, Steady, LoopOpened, Flattened, zeroPlacedFlat}
+use Rattle.reader.proofs.Overwriting.{overwrite-append}
+use Rattle.reader.proofs.Records.{length-records}
+use Rattle.translator.proofs.Overwriting.{replaced, take-overwrite}
 use Rattle.translator.proofs.Filing.{elem-below, elem-is}
 use Rattle.translator.proofs.CodeLaid.{stands-split}
 use Rattle.translator.proofs.Sizes.{flat-size, records-length, places-length}
@@ -34,21 +36,6 @@ abbrev pub endAt : List (Placed Statement) → ℕ → ℕ
 endAt rs a = recordAt rs a .item .end
 
 -- lists with places
-
-pub records-size : (p : Sheet) (n : ℕ) → length (recordsFrom n p) ≡ size p
-records-size done n = refl
-records-size (plus i j c p) n = ap suc (records-size p (suc n))
-records-size (minus i j c p) n = ap suc (records-size p (suc n))
-records-size (loop i b p) n =
-    let x = records-size b (suc n) in
-    let y = records-size p (suc n + size b) in
-    let z = length-append (recordsFrom (suc n) b) (recordsFrom (suc n + size b) p) in
-    omega arith
-records-size (while i b p) n =
-    let x = records-size b (suc n) in
-    let y = records-size p (suc n + size b) in
-    let z = length-append (recordsFrom (suc n) b) (recordsFrom (suc n + size b) p) in
-    omega arith
 
 places-length-more : (xs : List ℕ) (ss : List Statement) → length xs ≡ length ss → length (withPlaces xs ss) ≡ length ss
 places-length-more [] [] h = refl
@@ -145,7 +132,7 @@ nested rs a b x s body rest xs e hb hx g h =
     let n : endAt rs a ≡ suc a + size body = ap (λ (y : Placed Statement). y .item .end) (record-at rs a (placed x s) g) ∙ e in
     let lt = length-take (size body) xs in
     let ld = length-drop (size body) xs in
-    let lr = records-size body (suc a) in
+    let lr = length-records (suc a) body in
     let split = places-split xs (size body) (recordsFrom (suc a) body) (recordsFrom (suc a + size body) rest) lr (omega arith) in
     let long = places-length-more (take (size body) xs) (recordsFrom (suc a) body) (omega arith) in
     let cut = stands-split rs (suc a) (withPlaces (take (size body) xs) (recordsFrom (suc a) body)) (withPlaces (drop (size body) xs) (recordsFrom (suc a + size body) rest))
@@ -528,3 +515,24 @@ loop-body-over rs a b p xs c i x s t u v h z w =
     let e = h .counted in
     let r = z .room in
     omega arith
+
+-- the whole sheet
+
+pub flattened : (rs : List (Placed Statement)) (k : ℕ) (p : Sheet) (xs : List ℕ) (c : ℕ) (t u v : Table (Placed Flat)) → count t ≡ 0 → RecordSpan rs 0 k p xs → FlatsFiled p xs 32 t c u → Steady t u
+    → count v ≡ count u → memory v ≡ take (count u) (memory u) ++ replicate (length (memory u) - count u) zeroPlacedFlat → Flattened p xs (memory t) (count v) (memory v)
+flattened rs k p xs c t u v none s w z e m =
+    let n = w .counted in
+    let in₁ = z .inside in
+    let room = z .room in
+    let F = placedFlats p xs in
+    let long : length F ≡ flatSize (flat p) = flatted-long 0 32 p xs (s .listed) in
+    let m₁ : memory u ≡ overwrite (memory t) 0 F = w .filled ∙ ap (λ (q : ℕ). overwrite (memory t) q (flatted q 32 p xs)) none in
+    let at : count u ≡ 0 + length F = omega arith in
+    let front : take (count u) (memory u) ≡ F =
+    ap (λ (q : ℕ). take q (memory u)) at ∙ (ap (take (0 + length F)) m₁ ∙ take-overwrite (memory t) 0 F (omega arith)) in
+    let rest : length (memory u) - count u ≡ length (memory t) - flatSize (flat p) = omega arith in
+    record {
+      counted = omega arith;
+      room = omega arith;
+      filled = m ∙ (ap (λ (q : List (Placed Flat)). q ++ replicate (length (memory u) - count u) zeroPlacedFlat) front ∙ ap (λ (q : ℕ). F ++ replicate q zeroPlacedFlat) rest);
+    }

@@ -13,3 +13,4 @@ pub mod Filing
 pub mod Overwriting
 pub mod CodeLaid
 pub mod FlatFiled
+pub mod SealedSheets

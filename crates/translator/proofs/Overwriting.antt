@@ -9,16 +9,7 @@ use lib.ListN.{length, getD, set, length-set, take}
 use lib.Seq.{getD-set-same, getD-set-other, set-comm, set-set}
 use Rattle.std.proofs.shelf.Lists.{take-more-set}
 use Rattle.reader.specs.Tables.{overwrite}
-
-pub length-overwrite : {A : Type 0} (m : List A) (n : ℕ) (xs : List A) → length (overwrite m n xs) ≡ length m
-length-overwrite m n [] = refl
-length-overwrite m n (x ∷ xs) = length-overwrite (set m n x) (suc n) xs ∙ simp length-set
-
-pub overwrite-append : {A : Type 0} (m : List A) (n : ℕ) (xs ys : List A) → overwrite m n (xs ++ ys) ≡ overwrite (overwrite m n xs) (n + length xs) ys
-overwrite-append m n [] ys = ap (λ k. overwrite m k ys) (sym (add-zero n))
-overwrite-append m n (x ∷ xs) ys =
-    let e : suc n + length xs ≡ n + suc (length xs) = omega arith in
-    overwrite-append (set m n x) (suc n) xs ys ∙ ap (λ k. overwrite (overwrite (set m n x) (suc n) xs) k ys) e
+use Rattle.reader.proofs.Overwriting.{overwrite-append}
 
 getD-below : {A : Type 0} (m : List A) (n i : ℕ) (xs : List A) (d : A) → i < n → getD (overwrite m n xs) i d ≡ getD m i d
 getD-below m n i [] d h = refl

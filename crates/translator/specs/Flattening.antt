@@ -1,8 +1,8 @@
 -- Filing the flat statements of a sheet whose records are given.
 use mathlib.Core.Path.{_≡_}
-use mathlib.Core.List.{List}
-use Prim.Native.Nat.{ℕ, suc, _+_, _^_, _≤_, _<_}
-use lib.ListN.{length, set}
+use mathlib.Core.List.{List, _++_}
+use Prim.Native.Nat.{ℕ, suc, _+_, _-_, _^_, _≤_, _<_}
+use lib.ListN.{length, set, replicate}
 use Rattle.reader.specs.Sheet.{Sheet, size, loops}
 use Rattle.reader.specs.declared.table.Table.{Table}
 use Rattle.reader.specs.declared.types.Placed.{Placed}
@@ -15,7 +15,7 @@ use Rattle.translator.specs.declared.types.Role.{Role}
 use Rattle.translator.specs.declared.types.Role.the-variants.{Entry, Test, Down}
 use Rattle.translator.specs.declared.types.Flat.{Flat}
 use Rattle.translator.specs.Counters.{countersEnd}
-use Rattle.translator.specs.Translation.{flatFrom, flatSize, flatRecordsFrom, flatPlaces, flatsWithPlaces}
+use Rattle.translator.specs.Translation.{flatFrom, flat, flatSize, flatRecordsFrom, flatPlaces, flatsWithPlaces, placedFlats, zeroFlat}
 use Rattle.translator.specs.Laying.{Stands}
 
 -- the records from index a up to b are those of the sheet p, with the places xs
@@ -84,3 +84,12 @@ pub record LoopOpened (x s c : ℕ) (t : Table (Placed Flat)) (i : ℕ) (u : Tab
       (set (set (memory t) (count t) (placed x (flatOf (statementOf Plus c s 0 (suc (count t))) Entry))) (suc (count t)) (placed x (flatOf (statementOf While 0 c 0 0) Test)))
       (suc (suc (count t)))
       (placed x (flatOf (statementOf Minus c c 1 (suc (suc (suc (count t))))) Down))
+
+abbrev pub zeroPlacedFlat : Placed Flat
+zeroPlacedFlat = placed 0 zeroFlat
+
+-- memory m became k: the n flat statements of p, with their places, and zero ones behind them
+pub record Flattened (p : Sheet) (xs : List ℕ) (m : List (Placed Flat)) (n : ℕ) (k : List (Placed Flat)) : Type 0 where
+  pub counted : n ≡ flatSize (flat p)
+  pub room : flatSize (flat p) ≤ length m
+  pub filled : k ≡ placedFlats p xs ++ replicate (length m - flatSize (flat p)) zeroPlacedFlat

@@ -11,3 +11,4 @@ pub mod Drafts
 pub mod Seals
 pub mod Laying
 pub mod Flattening
+pub mod SealedSheets

@@ -2,17 +2,18 @@
 ghost use mathlib.Core.Path.{_≡_};
 ghost use mathlib.Core.List.{List};
 ghost use Prim.Native.Nat.{ℕ, suc, _+_, _<_, _≤_};
-ghost use lib.ListN.{length, set};
+ghost use lib.ListN.{length, set, replicate};
 ghost use Rattle.std.specs.Results.{Cases};
 ghost use Rattle.reader.specs.declared.types.Refusal.the-variants.{FlatFull};
 ghost use Rattle.reader.specs.declared.types.Kind.the-variants as kinds;
-ghost use Rattle.reader.specs.Sheet.{Sheet};
+ghost use Rattle.reader.specs.Sheet.{Sheet, loops};
 ghost use Rattle.reader.specs.Symbols.{placed};
 ghost use Rattle.reader.specs.Records.{statementOf};
 ghost use Rattle.reader.specs.Tables.{memory, count, lent};
 ghost use Rattle.translator.specs.declared.types.Role.the-variants as roles;
 ghost use Rattle.translator.specs.Counters.{countersEnd};
-ghost use Rattle.translator.specs.Flattening.{RecordSpan, flatOf, InMemory, OneFiled, Same, LoopOpened, FlatsFiled, StatementFlat, FlatsOver, Steady};
+ghost use Rattle.translator.specs.Translation.{flat, flatSize};
+ghost use Rattle.translator.specs.Flattening.{RecordSpan, flatOf, InMemory, OneFiled, Same, LoopOpened, FlatsFiled, StatementFlat, FlatsOver, Steady, Flattened, zeroPlacedFlat};
 use crate::types::Flat;
 use crate::types::Role;
 use reader::table::Table;
@@ -20,6 +21,21 @@ use reader::types::Kind;
 use reader::types::Placed;
 use reader::types::Refusal;
 use reader::types::Statement;
+
+// A zero flat statement.
+pub(crate) const ZERO_FLAT: Placed<Flat> = Placed {
+    place: 0,
+    item: Flat {
+        statement: Statement {
+            kind: Kind::Zero,
+            target: 0,
+            source: 0,
+            constant: 0,
+            end: 0,
+        },
+        role: Role::Written,
+    },
+};
 
 // Files one flat statement and answers its index.
 fn file(
@@ -203,4 +219,45 @@ fn flatten_body(
         owned = reached.1;
     }
     Ok(owned)
+}
+
+// Files the flat statements of a sheet into an empty table, zero ones behind them, and answers how many there are. A refusal clears it.
+fn file_sheet(
+    records: &[Placed<Statement>],
+    statements: usize,
+    table: &mut Table<Placed<Flat>>,
+) -> Result<usize, Refusal>
+    requires { ⌜ ((p : Sheet) × (xs : List ℕ) × RecordSpan (now records) 0 statements p xs × (loops p ≤ 32)) ⌝ ∗ ⌜ InMemory (now table) ⌝ ∗ ⌜ count (now table) ≡ 0 ⌝ }
+    ensures filed { λ r. ⌜ Cases r
+        (λ n. ((p : Sheet) (xs : List ℕ) → RecordSpan (now (records .entry)) 0 statements p xs → Flattened p xs (memory (now (table .entry))) n (memory (now (table .exit)))))
+        (λ e. (e ≡ FlatFull) × ((p : Sheet) (xs : List ℕ) → RecordSpan (now (records .entry)) 0 statements p xs → length (memory (now (table .entry))) < flatSize (flat p))
+        × (memory (now (table .exit)) ≡ replicate (length (memory (now (table .entry)))) zeroPlacedFlat)) ⌝ }
+    ensures lent { λ _. ⌜ lent (now (table .exit)) ≡ lent (now (table .entry)) ⌝ }
+{
+    match flatten_body(records, 0, statements, 32, table) {
+        Ok(_) => {
+            table.clear_rest(ZERO_FLAT);
+            Ok(table.len())
+        }
+        Err(e) => {
+            table.clear(ZERO_FLAT);
+            Err(e)
+        }
+    }
+}
+
+// Fills the memory with the flat statements of a sheet, and answers how many there are.
+pub(crate) fn flatten(
+    records: &[Placed<Statement>],
+    statements: usize,
+    flats: &mut [Placed<Flat>],
+) -> Result<usize, Refusal>
+    requires { ⌜ ((p : Sheet) × (xs : List ℕ) × RecordSpan (now records) 0 statements p xs × (loops p ≤ 32)) ⌝ }
+    ensures { λ r. ⌜ Cases r
+        (λ n. ((p : Sheet) (xs : List ℕ) → RecordSpan (now (records .entry)) 0 statements p xs → Flattened p xs (now (flats .entry)) n (now (flats .exit))))
+        (λ e. (e ≡ FlatFull) × ((p : Sheet) (xs : List ℕ) → RecordSpan (now (records .entry)) 0 statements p xs → length (now (flats .entry)) < flatSize (flat p))
+        × (now (flats .exit) ≡ replicate (length (now (flats .entry))) zeroPlacedFlat)) ⌝ }
+{
+    let mut table = Table::new(flats);
+    file_sheet(records, statements, &mut table)
 }

@@ -3,6 +3,7 @@ ghost use Rattle.reader.specs.WrittenRules.{WrittenStepIsPublished, SheetIsProg
 ghost use Rattle.translator.specs.GotoRules.{BoxStepIsPublished};
 ghost use Rattle.translator.specs.Sizes.{FlatSizeIsCounted, FlatHasAtMost320, CodeSizeIsCounted, CodeHasAtMost548, Fullest, CodeWidthIsSheetWidth, CodeIsWhole};
 ghost use Rattle.translator.specs.Following.{SpelledSheetIsPlayable, StartStands, BoxStepIsWrittenOrSilent, BoxKeepsUp, BoxStepsStand, CorrectionStands, BeyondWidthIsFree, StepsAreAccounted, StandingBoxAgrees, BoxFollowsWritten};
+ghost use Rattle.translator.specs.SealedSheets.{SheetIsSealed};
 
 // The written step takes exactly the published LOOP and WHILE steps.
 pub fn written_rules_hold() -> u8
@@ -70,6 +71,13 @@ pub fn width_holds() -> u8
 // The code of a sheet can be sealed.
 pub fn code_is_whole() -> u8
     ensures { λ _. ⌜ CodeIsWhole ⌝ }
+{
+    0
+}
+
+// A seal refuses no sheet within the limits.
+pub fn sheet_is_sealed() -> u8
+    ensures { λ _. ⌜ SheetIsSealed ⌝ }
 {
     0
 }
