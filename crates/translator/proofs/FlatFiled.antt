@@ -62,7 +62,7 @@ flats-long [] (f ∷ fs) h = absurd (omega arith)
 flats-long (x ∷ xs) [] h = refl
 flats-long (x ∷ xs) (f ∷ fs) h = ap suc (flats-long xs fs (omega arith))
 
-same-long : (n c : ℕ) (p : Sheet) (xs : List ℕ) → length xs ≡ size p → length (flatPlaces p xs) ≡ length (flatRecordsFrom n (flatFrom c p))
+pub same-long : (n c : ℕ) (p : Sheet) (xs : List ℕ) → length xs ≡ size p → length (flatPlaces p xs) ≡ length (flatRecordsFrom n (flatFrom c p))
 same-long n c p xs h =
     let a = places-length p xs h in
     let b = records-length (flatFrom c p) n in

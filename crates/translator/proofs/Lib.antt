@@ -14,3 +14,4 @@ pub mod Overwriting
 pub mod CodeLaid
 pub mod FlatFiled
 pub mod SealedSheets
+pub mod Loaded

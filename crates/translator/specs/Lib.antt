@@ -12,3 +12,4 @@ pub mod Seals
 pub mod Laying
 pub mod Flattening
 pub mod SealedSheets
+pub mod Loading

@@ -2,4 +2,5 @@ pub mod draft;
 mod flatten;
 pub mod laws;
 mod lay;
+pub mod load;
 pub mod types;

@@ -1,4 +1,10 @@
 // The plain data of the translator. It carries no clause, so that specs/ can name every type.
+use reader::types::Placed;
+use reader::types::PlacedDebug;
+use reader::types::PlacedPartialEq;
+use reader::types::Refusal;
+use reader::types::RefusalDebug;
+use reader::types::RefusalPartialEq;
 use reader::types::Statement;
 use reader::types::StatementDebug;
 use reader::types::StatementPartialEq;
@@ -48,4 +54,20 @@ pub struct Instruction {
 pub struct Flat {
     pub statement: Statement,
     pub role: Role,
+}
+
+// The stages of a load.
+#[derive(Clone, Copy, Debug, PartialEq, Eq)]
+pub enum Stage {
+    Read,
+    Flatten,
+    Lay,
+    Seal,
+}
+
+// Why a load was refused: the stage that refused, and its refusal with a place.
+#[derive(Clone, Copy, Debug, PartialEq, Eq)]
+pub struct Fault {
+    pub stage: Stage,
+    pub cause: Placed<Refusal>,
 }
