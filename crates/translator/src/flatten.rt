@@ -71,6 +71,26 @@ fn while_over(source: usize, end: usize) -> Statement
     }
 }
 
+// The statement with another end.
+fn with_end(statement: Statement, end: usize) -> Statement
+    ensures { λ r. ⌜ r ≡ statementOf (statement .kind) (statement .target) (statement .source) (statement .constant) end ⌝ }
+{
+    let Statement {
+        kind,
+        target,
+        source,
+        constant,
+        end: _,
+    } = statement;
+    Statement {
+        kind,
+        target,
+        source,
+        constant,
+        end,
+    }
+}
+
 // Files what a LOOP begins with, entry, test and countdown, and answers the index of the test, which has no end yet.
 fn open_loop(
     flats: &mut Table<Placed<Flat>>,
@@ -161,12 +181,8 @@ fn flatten_statement(
             Ok((item.end, next))
         }
         Kind::While => {
-            let head = match file(
-                flats,
-                found.place,
-                while_over(item.source, 0),
-                Role::Written,
-            ) {
+            let opened = while_over(item.source, 0);
+            let head = match file(flats, found.place, opened, Role::Written) {
                 Ok(head) => head,
                 Err(e) => return Err(e),
             };
@@ -178,14 +194,7 @@ fn flatten_statement(
             Ok((item.end, next))
         }
         _ => {
-            let end = flats.len() + 1;
-            let moved = Statement {
-                kind: item.kind,
-                target: item.target,
-                source: item.source,
-                constant: item.constant,
-                end,
-            };
+            let moved = with_end(item, flats.len() + 1);
             if let Err(e) = file(flats, found.place, moved, Role::Written) {
                 return Err(e);
             }

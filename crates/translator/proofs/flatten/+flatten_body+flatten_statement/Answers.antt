@@ -147,14 +147,14 @@ flatten-statement-flatten-body-requires-in-While t c κs =
     let k = v .counters in
     let h = P .5 in
     let F = c .in-Ok-file .ensures tt in
-    let x = placed (recordAt (c .args .records .now) (c .args .at) .place) (flatOf (c .while-over .result) role.Written) in
+    let x = placed (recordAt (c .args .records .now) (c .args .at) .place) (flatOf (c .while-over-opened .result) role.Written) in
     (search needs, ((v .body, v .inside, v .nested .inner, omega arith), in-memory (c .args .flats .now) (c .file .last .flats) (c .pre .1) (one-filed-steady x (c .args .flats .now) (c .file .last .flats) (F .filed .1) (F .lent))))
 
 pub flatten-statement-returns-in-Err-flatten-body-2 : need.flatten-statement-returns-in-Err-flatten-body-2
 flatten-statement-returns-in-Err-flatten-body-2 t c =
     let F = c .in-Ok-file .ensures tt in
     let E = c .in-Err-flatten-body-2 .ensures tt in
-    let x = placed (recordAt (c .args .records .now) (c .args .at) .place) (flatOf (c .while-over .result) role.Written) in
+    let x = placed (recordAt (c .args .records .now) (c .args .at) .place) (flatOf (c .while-over-opened .result) role.Written) in
     record {
       filed = (
         E .filed .0,
@@ -170,7 +170,7 @@ flatten-statement-end-while-requires-in-While t c κs =
     let P = c .pre .0 in
     let v = whiles-at (c .args .records .now) (c .args .at) (P .0) (P .1) (P .2) (c .in-While .is) (P .3) (P .4) in
     let F = c .in-Ok-file .ensures tt in
-    let x = placed (recordAt (c .args .records .now) (c .args .at) .place) (flatOf (c .while-over .result) role.Written) in
+    let x = placed (recordAt (c .args .records .now) (c .args .at) .place) (flatOf (c .while-over-opened .result) role.Written) in
     let B = c .in-Ok-flatten-body-2 .ensures tt in
     let w = B .filed (v .body) (v .inside) (v .nested .inner) in
     let a = F .filed .0 in
@@ -231,13 +231,13 @@ flatten-statement-returns-in-Ok-flatten-body-2 t c =
     let F = c .in-Ok-file .ensures tt in
     let B = c .in-Ok-flatten-body-2 .ensures tt in
     let Z = c .end-while-in-While .ensures in
-    let o = placed (recordAt rs a .place) (flatOf (c .while-over .result) role.Written) in
+    let o = placed (recordAt rs a .place) (flatOf (c .while-over-opened .result) role.Written) in
     let x = placed (recordAt rs a .place) (flatOf (statementOf kind.While 0 (recordAt rs a .item .source) 0 (count (c .flatten-body-in-While .last .flats))) role.Written) in
     let s₁ = one-filed-steady o (c .args .flats .now) (c .file .last .flats) (F .filed .1) (F .lent) in
     let in₁ = in-memory (c .args .flats .now) (c .file .last .flats) (c .pre .1) s₁ in
     let in₂ = in-memory (c .file .last .flats) (c .flatten-body-in-While .last .flats) in₁ (B .steady) in
     let put : OneFiled (placed (recordAt rs a .place) (flatOf (statementOf kind.While 0 (recordAt rs a .item .source) 0 0) role.Written)) (c .args .flats .now) (c .file .last .flats) =
-    subst (λ (z : Statement). OneFiled (placed (recordAt rs a .place) (flatOf z role.Written)) (c .args .flats .now) (c .file .last .flats)) (c .while-over .ensures) (F .filed .1) in
+    subst (λ (z : Statement). OneFiled (placed (recordAt rs a .place) (flatOf z role.Written)) (c .args .flats .now) (c .file .last .flats)) (c .while-over-opened .ensures) (F .filed .1) in
     record {
       filed = (
         whiles-at rs a (P .0) (P .1) (P .2) (c .in-While .is) (P .3) (P .4) .nested .more,
@@ -262,8 +262,10 @@ flatten-statement-returns-in-rest-file t c =
     let a = c .args .at in
     let P = c .pre .0 in
     let E = c .in-rest-file .ensures tt in
-    let n = c .len-end .result + 1 in
-    let e : n ≡ count (c .args .flats .now) + 1 = omega (arith, c .len-end .ensures) in
+    let n = c .len .result + 1 in
+    let e : n ≡ count (c .args .flats .now) + 1 = omega (arith, c .len .ensures) in
+    let put : OneFiled (movedAt rs a n) (c .args .flats .now) (c .file-in-rest .last .flats) =
+    subst (λ (z : Statement). OneFiled (placed (recordAt rs a .place) (flatOf z role.Written)) (c .args .flats .now) (c .file-in-rest .last .flats)) (c .with-end-moved .ensures) (E .filed .1) in
     record {
       filed = (
         assigns rs a (P .0) (P .1) (P .2) (c .in-rest .not-Loop) (c .in-rest .not-While) (P .3) (P .4) .more,
@@ -273,8 +275,8 @@ flatten-statement-returns-in-rest-file t c =
               rest = v .rest;
               places = v .places;
               spans = v .span;
-              left = after-assignment rs a b n p xs (c .args .counter) (c .args .flats .now) (c .file-in-rest .last .flats) v e (E .filed .1);
+              left = after-assignment rs a b n p xs (c .args .counter) (c .args .flats .now) (c .file-in-rest .last .flats) v e put;
             },
       );
-      steady = one-filed-steady (movedAt rs a n) (c .args .flats .now) (c .file-in-rest .last .flats) (E .filed .1) (E .lent);
+      steady = one-filed-steady (movedAt rs a n) (c .args .flats .now) (c .file-in-rest .last .flats) put (E .lent);
     }
