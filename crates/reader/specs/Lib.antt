@@ -9,6 +9,9 @@ pub mod Records
 pub mod Refusals
 pub mod Reading
 pub mod Lexing
+pub mod Steps
+pub mod WrittenRun
+pub mod WrittenRules
 pub mod Expecting
 pub mod Parsing
 pub mod Checks
