@@ -25,6 +25,9 @@ pub mod Records
 pub mod Runs
 pub mod Scanning
 pub mod Uniquely
+pub mod WrittenRules
+pub mod Spelled
+pub mod Steps
 pub mod Spans
 pub mod Checking
 pub mod Printing

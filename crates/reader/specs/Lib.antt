@@ -10,6 +10,9 @@ pub mod Refusals
 pub mod Reading
 pub mod Tables
 pub mod Lexing
+pub mod Steps
+pub mod WrittenRun
+pub mod WrittenRules
 pub mod Expecting
 pub mod Parsing
 pub mod Checks

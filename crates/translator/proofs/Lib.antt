@@ -1,0 +1,17 @@
+pub mod BoxStep
+pub mod BoxSteps
+pub mod Counters
+pub mod Laid
+pub mod Elsewhere
+pub mod Following
+pub mod GotoRules
+pub mod Sizes
+pub mod Width
+pub mod Fullest
+pub mod Fits
+pub mod Filing
+pub mod Overwriting
+pub mod CodeLaid
+pub mod FlatFiled
+pub mod SealedSheets
+pub mod Loaded

@@ -1,0 +1,15 @@
+pub mod Roles
+pub mod JumpCode
+pub mod Counters
+pub mod Translation
+pub mod Width
+pub mod GotoRules
+pub mod Standing
+pub mod Following
+pub mod Sizes
+pub mod Drafts
+pub mod Seals
+pub mod Laying
+pub mod Flattening
+pub mod SealedSheets
+pub mod Loading
