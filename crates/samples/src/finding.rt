@@ -6,19 +6,23 @@ use reader::read;
 use reader::types::Placed;
 use reader::types::Statement;
 use reader::types::ZERO_RECORD;
+use shown::write_code;
+use shown::write_refused;
 use std::error::AnyError;
 use std::io::Write;
 use survey::depth;
 
-// Writes how the text is refused; or the counts of its sheet, and the sheet in printed form.
+// Writes how the text is refused; or the counts of its sheet, the sheet in printed form, and its code.
 pub fn write_finding(out: &mut impl Write, text: &[u8]) -> Result<(), AnyError> {
     let mut records = [ZERO_RECORD; 256];
     match read(text, &mut records) {
-        Ok(count) => write_sheet(out, &records[0..count]),
+        Ok(count) => {
+            write_sheet(out, &records[0..count])?;
+            write_code(out, text)?;
+            Ok(())
+        }
         Err(refused) => {
-            let number = refused.item.number();
-            let place = refused.place;
-            writeln!(out, "refused {number} at {place}")?;
+            write_refused(out, refused)?;
             Ok(())
         }
     }
