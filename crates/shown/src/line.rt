@@ -1,4 +1,10 @@
 // An instruction on a line of its own.
+ghost use mathlib.Core.Path.{_≡_};
+ghost use mathlib.Core.List.{_++_};
+ghost use lib.Chars.{codes};
+ghost use Rattle.std.specs.declared.option.Option.the-variants.{Some};
+ghost use Rattle.std.specs.Written.{decimal};
+ghost use Rattle.shown.specs.Text.{roleLetter, operationText};
 use std::fmt;
 use translator::types::Instruction;
 use translator::types::Operation;
@@ -12,40 +18,52 @@ pub struct Line {
 }
 
 pub impl fmt::Display for Line as LineDisplay {
+    ghost shown = { λ l. Some (codes "M" ++ (decimal (l .label) ++ (codes " " ++ (roleLetter (l .instruction .role) ++ (codes " " ++ operationText (l .instruction .operation)))))) };
+
     fn fmt<W: fmt::Write>(&self, f: &mut fmt::Formatter<W>) -> fmt::Result {
         let label = self.label;
         let letter = letter(self.instruction.role);
-        write!(f, "M{label} {letter} ")?;
-        write_operation(f, self.instruction.operation)
+        let operation = Shown(self.instruction.operation);
+        write!(f, "M{label} {letter} {operation}")
+    }
+}
+
+// An operation that is shown.
+#[derive(Clone, Copy)]
+struct Shown(Operation);
+
+impl fmt::Display for Shown as ShownDisplay {
+    ghost shown = { λ s. Some (operationText (s .0)) };
+
+    fn fmt<W: fmt::Write>(&self, f: &mut fmt::Formatter<W>) -> fmt::Result {
+        match self.0 {
+            Operation::Halt => write!(f, "HALT"),
+            Operation::Plus {
+                target,
+                source,
+                constant,
+            } => write!(f, "x{target} := x{source} + {constant}"),
+            Operation::Minus {
+                target,
+                source,
+                constant,
+            } => write!(f, "x{target} := x{source} - {constant}"),
+            Operation::If { source, label } => write!(f, "IF x{source} = 0 THEN GOTO M{label}"),
+            Operation::Goto { label } => write!(f, "GOTO M{label}"),
+        }
     }
 }
 
 // The letter of a role.
-fn letter(role: Role) -> char {
+fn letter(role: Role) -> &'static str
+    ensures { λ r. ⌜ now r ≡ roleLetter role ⌝ }
+{
     match role {
-        Role::Halt => 'h',
-        Role::Written => 'w',
-        Role::Entry => 'e',
-        Role::Test => 't',
-        Role::Down => 'd',
-        Role::Jump => 'j',
-    }
-}
-
-fn write_operation<W: fmt::Write>(f: &mut fmt::Formatter<W>, operation: Operation) -> fmt::Result {
-    match operation {
-        Operation::Halt => write!(f, "HALT"),
-        Operation::Plus {
-            target,
-            source,
-            constant,
-        } => write!(f, "x{target} := x{source} + {constant}"),
-        Operation::Minus {
-            target,
-            source,
-            constant,
-        } => write!(f, "x{target} := x{source} - {constant}"),
-        Operation::If { source, label } => write!(f, "IF x{source} = 0 THEN GOTO M{label}"),
-        Operation::Goto { label } => write!(f, "GOTO M{label}"),
+        Role::Halt => "h",
+        Role::Written => "w",
+        Role::Entry => "e",
+        Role::Test => "t",
+        Role::Down => "d",
+        Role::Jump => "j",
     }
 }

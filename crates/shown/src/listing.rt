@@ -1,4 +1,6 @@
 // The listing of a sheet: its code, one instruction to a line.
+ghost use mathlib.Core.Path.{_≡_};
+ghost use Rattle.translator.specs.Flattening.{zeroPlacedFlat};
 use crate::line::Line;
 use crate::line::LineDisplay;
 use reader::types::Placed;
@@ -24,7 +26,9 @@ pub fn write_code(out: &mut impl Write, text: &[u8]) -> io::Result<()> {
 }
 
 // What memory for flat statements holds where it holds none.
-fn zero_flat() -> Placed<Flat> {
+fn zero_flat() -> Placed<Flat>
+    ensures { λ r. ⌜ r ≡ zeroPlacedFlat ⌝ }
+{
     Placed {
         place: 0,
         item: Flat {
