@@ -3,10 +3,10 @@ ghost use mathlib.Core.List.{_++_};
 ghost use Prim.Native.Nat.{ℕ, _-_, _<_};
 ghost use lib.ListN.{length, set, take};
 ghost use Rattle.reader.specs.Records.{cleared};
-use filing::table::Table;
 use crate::types::Placed;
 use crate::types::Statement;
 use crate::types::ZERO_RECORD;
+use filing::table::Table;
 
 // Files a record behind the first `filed`, if there is memory for it.
 pub(super) fn file_record(
