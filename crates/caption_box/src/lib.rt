@@ -1,4 +1,6 @@
 // The box: shows of sealed code, and rehearsals of statement records, over any register store.
+#![tactic(auto)]
+
 mod access;
 pub mod laws;
 pub mod rehearsal;

@@ -1,4 +1,6 @@
 // Runs a script of calls, and prints each call with its answer. docs/SHOW.md has the lines of a script.
+#![tactic(auto)]
+
 mod answer;
 mod calls;
 mod compare;

@@ -1,2 +1,4 @@
 // The filing table: elements filed from the front of lent memory.
+#![tactic(auto)]
+
 pub mod table;

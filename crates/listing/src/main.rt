@@ -1,4 +1,6 @@
 // Reads a sheet from standard input, and prints its code.
+#![tactic(auto)]
+
 use shown::write_code;
 use std::io::{BufWriter, Read, Write};
 

@@ -1,4 +1,6 @@
 // Reads a sheet from standard input, and says what it found: the sheet in order, or its first fault.
+#![tactic(auto)]
+
 mod accepted;
 mod fault;
 mod position;

@@ -1,21 +1,20 @@
 -- A body, statement by statement, and a LOOP or WHILE with its body, as the parser goes from one state to the next.
-use Rattle.std.proofs.Common.{◌≡◌, ℕ, suc, ◌+◌, ◌-◌, ◌<◌, ◌≤◌, List, [], ◌∷◌, ◌++◌, length, drop, set, Some, None, Ok, Err, Option, Result, sym, refl, ap, ◌∙◌, subst, append_assoc, append-nil, add-one, arith}
+use Rattle.std.proofs.Common.{◌≡◌, ℕ, suc, ◌+◌, ◌-◌, ◌<◌, ◌≤◌, List, [], ◌∷◌, ◌++◌, length, drop, set, Some, None, Ok, Err, Option, Result, sym, ap, ◌∙◌, subst, append_assoc, add-one, arith}
 use Rattle.reader.specs.declared.types.Placed.{Placed}
 use Rattle.reader.specs.declared.types.Refusal.{Refusal}
 use Rattle.reader.specs.declared.types.Kind.{Kind}
-use Rattle.reader.specs.declared.types.Kind.TheVariants as kind
 use Rattle.reader.specs.declared.types.Lexeme.{Lexeme}
 use Rattle.reader.specs.declared.types.Lexeme.TheVariants as lexeme
 use Rattle.reader.specs.declared.types.Statement.{Statement}
 use Rattle.reader.specs.declared.cursor.Cursor.{Cursor}
 use Rattle.reader.specs.declared.parser.Parser.{Parser}
-use Rattle.reader.specs.Symbols.{Symbol, register, END, semicolon, PlacedSymbol, placed, symbols}
+use Rattle.reader.specs.Symbols.{Symbol, END, semicolon, PlacedSymbol, placed}
 use Rattle.reader.specs.Text.{Reads}
 use Rattle.reader.specs.Machine.{Expect}
 use Rattle.reader.specs.Records.{statement_of}
 use Rattle.reader.specs.Lexing.{meant, Fine, Between, LexemeRead}
 use Rattle.reader.specs.Expecting.{Required, Closed, Halts}
-use Rattle.reader.specs.Parsing.{text_of, pos_of, memory_of, Kept, Parsed, RefusedBehind, StatementRead, Follows, BodyRead, Opening, opening_loop, opening_while, Block, Admitted, admits_loop, admits_while, Head, HeadRead}
+use Rattle.reader.specs.Parsing.{text_of, pos_of, memory_of, Kept, Parsed, RefusedBehind, StatementRead, Follows, Opening, Admitted, admits_loop, admits_while, Head, HeadRead}
 use Rattle.reader.proofs.Counts.{small_register, size_spelled}
 use Rattle.reader.proofs.Parsing.{Joined, joined_more, parsed_block}
 use Rattle.reader.proofs.Refusing.{behind-first, joined_refused, follows_flawed, block_open, body_bad}

@@ -1,10 +1,10 @@
 -- The check of records, each way.
-use Rattle.std.proofs.Common.{◌≡◌, ℕ, zero, suc, ◌+◌, ◌<◌, ◌≤◌, max, Bool, true, false, ◌⊎◌, List, [], ◌∷◌, ◌++◌, length, drop, Decides, sym, refl, ap, ◌∙◌, subst, inl, inr, ⊎_elim, add-one, arith}
+use Rattle.std.proofs.Common.{◌≡◌, ℕ, suc, ◌+◌, ◌<◌, ◌≤◌, max, Bool, true, false, ◌⊎◌, List, [], ◌∷◌, ◌++◌, length, drop, Decides, sym, refl, ap, ◌∙◌, subst, inl, inr, ⊎_elim, add-one, arith}
 use Rattle.std.proofs.lemmas.List.{at_drop_more, at_drop_all}
 use Rattle.reader.specs.declared.types.Kind.{Kind}
 use Rattle.reader.specs.declared.types.Kind.TheVariants.{Zero, Plus, Minus, Loop, While}
 use Rattle.reader.specs.declared.types.Statement.{Statement}
-use Rattle.reader.specs.Sheet.{Sheet, done, plus, minus, loop, while, Some, Whole, Fit, depth, size, loops, Within}
+use Rattle.reader.specs.Sheet.{Sheet, done, plus, minus, loop, while, Some, Whole, Fit, depth, size, loops}
 use Rattle.reader.specs.Records.{statement_of, records_from, records, zero_record}
 use Rattle.reader.specs.Checks.{items, at, Spans, IsSheet, Assigned, Headed, Body, IsStatement, an_assignment, a_block, loop_count, loops_in}
 use Rattle.reader.proofs.Spans.{Recs, same_all, spans_all, spans_size, some_more, some_of}

@@ -1,8 +1,7 @@
 -- What is counted of the symbols that spell a sheet is what is counted of the sheet.
-use Rattle.std.proofs.Common.{◌≡◌, ℕ, zero, suc, ◌+◌, ◌<◌, ◌≤◌, List, [], ◌∷◌, ◌++◌, sym, refl, ap, ◌∙◌, subst, arith}
-use native.Mathlib.Decide.{dec_le}
+use Rattle.std.proofs.Common.{◌≡◌, ℕ, suc, ◌+◌, ◌<◌, ◌≤◌, List, [], ◌∷◌, ◌++◌, refl, arith}
 use Rattle.reader.specs.Sheet.{Sheet, done, plus, minus, loop, while, then, size, loops, Fit}
-use Rattle.reader.specs.Symbols.{Symbol, LOOP, WHILE, DO, END, number, register, assign, unequal, plus_sign, minus_sign, semicolon, Flaw, big_number, big_register, total, separating, looping}
+use Rattle.reader.specs.Symbols.{Symbol, END, number, register, semicolon, Flaw, big_number, big_register, total, separating, looping}
 use Rattle.reader.specs.Grammar.{Spells, adds, subtracts, sequence, loops as loops-spelt, whiles}
 use Rattle.reader.proofs.Reaches.{total_append}
 use Rattle.reader.proofs.Judged.{AllFine}

@@ -1,7 +1,7 @@
 -- What the machine does at one symbol: it refuses, or is judged by what follows.
-use Rattle.std.proofs.Common.{◌≡◌, ℕ, suc, ◌+◌, ◌<◌, ◌≤◌, List, [], ◌∷◌, ◌++◌, sym, refl, ap, ◌∙◌, subst, arith}
+use Rattle.std.proofs.Common.{◌≡◌, ℕ, ◌+◌, List, ◌∷◌, refl, ap, ◌∙◌}
 use native.Mathlib.Decide.{ℕ_discrete}
-use Rattle.reader.specs.Symbols.{Symbol, stray, PlacedSymbol, Flaw, Opens, IsLoop, separating, looping, placed}
+use Rattle.reader.specs.Symbols.{Symbol, PlacedSymbol, Flaw, Opens, IsLoop, separating, looping}
 use Rattle.reader.specs.Machine.{Expect, Step, Next, goes, stuck, next?, Look, flaw, fine, look, opens?, loop?, Begun, begun?, both?, Verdict, refused, limited, decide, judge}
 use Rattle.reader.proofs.Reaches.{same_state}
 use Rattle.reader.proofs.Judged.{same_flaw}

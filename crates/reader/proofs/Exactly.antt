@@ -1,11 +1,9 @@
 -- The verdict is exact: it accepts just the sheets within the limits, and else tells the first fault.
-use Rattle.std.proofs.Common.{◌≡◌, ℕ, zero, suc, ◌+◌, ◌<◌, ◌≤◌, List, [], ◌∷◌, ◌++◌, sym, refl, ap, ◌∙◌, subst, append-nil, arith}
+use Rattle.std.proofs.Common.{◌≡◌, ℕ, suc, ◌+◌, ◌≤◌, List, [], ◌∷◌, refl, ap, subst, append-nil, arith}
 use native.Mathlib.Decide.{ℕ_discrete}
-use Rattle.reader.specs.Sheet.{Sheet, Within}
 use Rattle.reader.specs.Symbols.{Symbol, PlacedSymbol, symbols, Flaw, Opens, opens_loop, opens_while, IsLoop, is_loop, separating, looping, total}
-use Rattle.reader.specs.Grammar.{Spells}
-use Rattle.reader.specs.Faults.{Fault, FirstFault, here, later, at_end}
-use Rattle.reader.specs.Machine.{Expect, statement, Step, to_loop, to_while, Next, goes, stuck, next?, Look, flaw, fine, look, opens?, loop?, Begun, begun?, both?, Verdict, accepted, refused, decide, judge, verdict}
+use Rattle.reader.specs.Faults.{FirstFault, here, later, at_end}
+use Rattle.reader.specs.Machine.{Expect, statement, Step, to_loop, to_while, Next, goes, stuck, next?, Look, flaw, fine, look, opens?, loop?, begun?, both?, Verdict, accepted, refused, decide, judge, verdict}
 use Rattle.reader.specs.Claims.{Sheetable, Says, VerdictIsGrammar, SheetsAreAccepted, FirstFaultIsTold}
 use Rattle.reader.proofs.Runs.{Run, at_last, onward, runs, spelled}
 use Rattle.reader.proofs.Reaches.{from_start, same_state}

@@ -1,11 +1,10 @@
 -- The examples, by computation: a refused text by reading it, another by printing its sheet.
-use Rattle.std.proofs.Common.{◌≡◌, ℕ, ◌≤◌, List, [], length, codes, sym, refl, ap, ◌∙◌, subst, arith}
+use Rattle.std.proofs.Common.{◌≡◌, ℕ, ◌≤◌, List, length, sym, refl, subst, arith}
 use native.Mathlib.Decide.{ℕ_discrete, dec_lt}
 use Rattle.std.specs.Fmt.{digits}
 use Rattle.reader.specs.declared.types.Refusal.{Refusal}
 use Rattle.reader.specs.declared.types.Refusal.TheVariants.{StrayByte, StrangeWord, TooBig, OutOfOrder, TooDeep}
 use Rattle.reader.specs.Sheet.{Sheet, done, plus, minus, loop, while, Some, Whole, Within}
-use Rattle.reader.specs.Symbols.{PlacedSymbol, symbols}
 use Rattle.reader.specs.Grammar.{Spells}
 use Rattle.reader.specs.Machine.{Verdict, refused, judge, verdict}
 use Rattle.reader.specs.Refusals.{refusal_number}

@@ -1,5 +1,5 @@
 -- Records that are filed as far as their memory goes, while the statements are counted on.
-use Rattle.std.proofs.Common.{◌≡◌, ℕ, suc, ◌+◌, ◌-◌, ◌<◌, ◌≤◌, min, Bool, true, false, List, ◌++◌, length, take, set, replicate, Some, None, Option, sym, refl, ap, ◌∙◌, ap₂, ⊎_elim, arith}
+use Rattle.std.proofs.Common.{◌≡◌, ℕ, ◌-◌, ◌<◌, min, Bool, true, false, List, ◌++◌, length, take, set, replicate, Some, None, Option, sym, ap, ◌∙◌, ap₂, ⊎_elim, arith}
 use Rattle.std.proofs.lemmas.List.{set_past, take_all}
 use Rattle.std.proofs.str.Laws.{order}
 use Rattle.filing.specs.declared.table.Table.{Table}

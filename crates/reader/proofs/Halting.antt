@@ -1,11 +1,10 @@
 -- Reading on, symbol by symbol, and where the machine refuses.
-use Rattle.std.proofs.Common.{◌≡◌, ℕ, ◌+◌, ◌≤◌, List, [], ◌∷◌, ◌++◌, length, drop, sym, refl, ap, ◌∙◌, subst, arith}
+use Rattle.std.proofs.Common.{◌≡◌, ℕ, ◌≤◌, List, [], ◌∷◌, length, refl, ◌∙◌, subst, arith}
 use Rattle.reader.specs.declared.types.Placed.{Placed}
 use Rattle.reader.specs.declared.types.Kind.{Kind}
 use Rattle.reader.specs.declared.types.Refusal.{Refusal}
-use Rattle.reader.specs.Symbols.{Symbol, DO, number, register, assign, unequal, plus_sign, minus_sign, PlacedSymbol, placed, Flaw, Opens, separating, looping}
-use Rattle.reader.specs.Text.{Reads}
-use Rattle.reader.specs.Machine.{Expect, becomes, source, sign, constant, more, loop_register, loop_do, while_register, while_unequal, while_zero, while_do, Step, to_assign, to_source, to_plus, to_minus, to_constant, to_loop_register, to_loop_do, to_while_register, to_unequal, to_zero, to_while_do, Begun, refused, finish, judge}
+use Rattle.reader.specs.Symbols.{Symbol, DO, number, register, assign, unequal, plus_sign, minus_sign, PlacedSymbol, placed, Opens, separating, looping}
+use Rattle.reader.specs.Machine.{Expect, becomes, source, sign, constant, loop_register, loop_do, while_register, while_unequal, while_zero, while_do, Step, to_assign, to_source, to_plus, to_minus, to_constant, to_loop_register, to_loop_do, to_while_register, to_unequal, to_zero, to_while_do, Begun, refused, finish, judge}
 use Rattle.reader.specs.Refusals.{refusal_number}
 use Rattle.reader.specs.Lexing.{Fine, Between}
 use Rattle.reader.specs.Expecting.{Misfit, has_flaw, is_other, is_none, Refuses, IsRegister, is_register, IsNumber, is_number, Sign, sign_plus, sign_minus, IsSign, Passes, Halts}

@@ -1,13 +1,13 @@
 -- The verdict is what the relation says: the first fault, or a run to the end within the limits.
 --
-use Rattle.std.proofs.Common.{◌≡◌, ℕ, zero, suc, ◌+◌, ◌<◌, ◌≤◌, List, [], ◌∷◌, ◌++◌, sym, refl, ap, ◌∙◌, subst, arith}
+use Rattle.std.proofs.Common.{◌≡◌, ℕ, zero, suc, ◌+◌, ◌≤◌, List, [], ◌∷◌, ◌++◌, sym, refl, ◌∙◌, arith}
 use native.Mathlib.Decide.{ℕ_discrete}
 use Rattle.reader.specs.Symbols.{Symbol, PlacedSymbol, symbols, Flaw, stray_byte, strange_word, big_number, big_register, Opens, opens_loop, opens_while, IsLoop, is_loop, LOOP, WHILE, DO, END, number, register, assign, unequal, plus_sign, minus_sign, semicolon, stray, strange, looping, separating, total, Starts, level, statements_before, loops_before}
 use Rattle.reader.specs.Grammar.{Begins, Program}
 use Rattle.reader.specs.Faults.{Fault, flawed, out_of_order, too_deep, too_many, too_many_loops, Unfinished, FirstFault, here, later, at_end}
-use Rattle.reader.specs.Machine.{Expect, statement, becomes, source, sign, constant, loop_register, loop_do, while_register, while_unequal, while_zero, while_do, more, Step, to_target, to_loop, to_while, to_assign, to_source, to_plus, to_minus, to_constant, to_loop_register, to_loop_do, to_while_register, to_unequal, to_zero, to_while_do, to_next, to_end, Next, goes, stuck, next?, Look, flaw, fine, look, opens?, loop?, Begun, begun, begun?, both?, Verdict, accepted, refused, limited, decide, finish, judge}
+use Rattle.reader.specs.Machine.{Expect, statement, becomes, source, sign, constant, loop_register, loop_do, while_register, while_unequal, while_zero, while_do, more, Step, to_target, to_loop, to_while, to_assign, to_source, to_plus, to_minus, to_constant, to_loop_register, to_loop_do, to_while_register, to_unequal, to_zero, to_while_do, to_next, to_end, Next, goes, stuck, next?, Look, flaw, fine, look, opens?, loop?, Begun, begun, begun?, both?, Verdict, accepted, refused, decide, finish, judge}
 use Rattle.reader.proofs.Runs.{Run, at_last, onward}
-use Rattle.reader.proofs.Reaches.{Reach, from_start, one_more, begins, reached, begins_step, Over, program_over, total_append, reach_level, starts_begun, begun_starts}
+use Rattle.reader.proofs.Reaches.{Reach, one_more, begins, reached, begins_step, Over, program_over, total_append, reach_level, starts_begun, begun_starts}
 
 -- nothing is wrong with any of the symbols by itself
 abbrev pub AllFine : List Symbol → Type 0

@@ -1,7 +1,7 @@
 -- The first fault is the leftmost: places rise.
-use Rattle.std.proofs.Common.{◌≡◌, ℕ, zero, suc, ◌+◌, ◌<◌, ◌≤◌, ◌⊎◌, List, [], ◌∷◌, ◌++◌, length, sym, refl, ap, ◌∙◌, subst, inl, inr, arith, length-append}
+use Rattle.std.proofs.Common.{◌≡◌, ℕ, suc, ◌+◌, ◌<◌, ◌≤◌, ◌⊎◌, List, [], ◌∷◌, ◌++◌, length, refl, subst, inl, inr, arith, length-append}
 use Rattle.reader.specs.Symbols.{Symbol, PlacedSymbol}
-use Rattle.reader.specs.Faults.{Fault, FirstFault, here, later, at_end, SomeFault, fault_here, fault_later, fault_end}
+use Rattle.reader.specs.Faults.{FirstFault, here, later, at_end, SomeFault, fault_here, fault_later, fault_end}
 use Rattle.reader.specs.Text.{Reads, the_end, a_blank, a_mark, a_run, a_stray}
 use Rattle.reader.specs.Claims.{FirstFaultIsLeftmost}
 use Rattle.reader.proofs.Scanning.{some_mark}

@@ -1,10 +1,9 @@
 -- What single bytes, runs and digits of a text say.
-use Rattle.std.proofs.Common.{◌≡◌, ℕ, suc, ◌+◌, ◌-◌, ◌*◌, ◌<◌, ◌≤◌, Bool, true, false, cond, not, ◌&&◌, T, eqb, leb, List, [], ◌∷◌, ◌++◌, length, get_or, take, drop, Decides, sym, refl, ap, ◌∙◌, subst, add-one, arith, leb→le, length-drop, eq-eqb, ne_eqb, eqb-true}
+use Rattle.std.proofs.Common.{◌≡◌, ℕ, ◌+◌, ◌-◌, ◌*◌, ◌<◌, ◌≤◌, Bool, true, false, not, ◌&&◌, T, eqb, leb, List, [], ◌∷◌, ◌++◌, length, get_or, take, drop, Decides, sym, refl, ap, ◌∙◌, subst, add-one, arith, leb→le, length-drop, eq-eqb, eqb-true}
 use borrow.Author.Tests.{clash, eqb-false}
 use Rattle.std.specs.Char.{is_ascii_alphanumeric, is_ascii_digit}
 use Rattle.std.specs.Str.{all_ascii_digits}
 use Rattle.std.proofs.lemmas.List.{drop_more, drop_all, take_more, get_or-drop, at_drop_more, at_drop_all}
-use Rattle.std.proofs.lemmas.Bool.Decides.{nat_tests}
 use Rattle.reader.specs.Symbols.{PlacedSymbol}
 use Rattle.reader.specs.Text.{Blank, space, line_feed, Numeral, just_zero, some_digits, read_on, value, AllAlnum, Stops, Reads, a_blank}
 use Rattle.reader.proofs.Readings.{both_hold}

@@ -1,5 +1,5 @@
 -- A text and its memory have one answer.
-use Rattle.std.proofs.Common.{◌≡◌, ℕ, ◌-◌, ◌<◌, ◌≤◌, List, [], ◌∷◌, ◌++◌, length, get_or, Ok, Err, Result, sym, refl, ap, ◌∙◌, subst, ap₂, arith}
+use Rattle.std.proofs.Common.{◌≡◌, ℕ, ◌-◌, List, [], ◌∷◌, ◌++◌, length, get_or, Ok, Err, Result, sym, refl, ap, ◌∙◌, subst, ap₂, arith}
 use Rattle.reader.specs.declared.types.Placed.{Placed}
 use Rattle.reader.specs.declared.types.Refusal.{Refusal}
 use Rattle.reader.specs.declared.types.Refusal.TheVariants.{Overlong, StrayByte, StrangeWord, TooBig, OutOfOrder, TooDeep, TooMany, TreeFull, NoSheet, FlatFull, CodeFull, JumpOpen, NotOpen, BadDraft, PageFull, NoRegister, OverTop, SmallStore, ManyInputs, LongTick, LongShow}

@@ -1,5 +1,5 @@
 -- Memory that is written over from a place on.
-use Rattle.std.proofs.Common.{◌≡◌, ℕ, suc, ◌+◌, ◌<◌, ◌≤◌, List, [], ◌∷◌, ◌++◌, length, set, sym, refl, ap, ◌∙◌, add-zero, arith, length-set}
+use Rattle.std.proofs.Common.{◌≡◌, ℕ, suc, ◌+◌, ◌<◌, List, [], ◌∷◌, ◌++◌, length, set, sym, refl, ap, ◌∙◌, add-zero, arith, length-set}
 use Rattle.std.proofs.lemmas.List.{set_comm, set-set}
 use Rattle.filing.specs.Tables.{overwrite}
 

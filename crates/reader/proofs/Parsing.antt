@@ -1,5 +1,5 @@
 -- How the parts of a sheet join as they are parsed.
-use Rattle.std.proofs.Common.{◌≡◌, ℕ, suc, ◌+◌, ◌<◌, ◌≤◌, List, [], ◌∷◌, ◌++◌, length, drop, set, Some, None, Ok, Err, Result, sym, refl, ap, ◌∙◌, subst, ap₂, append_assoc, append-nil, arith}
+use Rattle.std.proofs.Common.{◌≡◌, ℕ, suc, ◌+◌, ◌<◌, ◌≤◌, List, [], ◌∷◌, ◌++◌, set, None, Ok, Err, Result, sym, refl, ap, ◌∙◌, subst, ap₂, append_assoc, append-nil, arith}
 use Rattle.reader.specs.declared.types.Placed.{Placed}
 use Rattle.reader.specs.declared.types.Refusal.{Refusal}
 use Rattle.reader.specs.declared.types.Kind.{Kind}
@@ -8,7 +8,7 @@ use Rattle.reader.specs.declared.types.Statement.{Statement}
 use Rattle.reader.specs.Sheet.{Sheet, done, plus, minus, loop, while, then, size}
 use Rattle.reader.specs.Symbols.{Symbol, LOOP, WHILE, DO, END, register, assign, unequal, number, semicolon, PlacedSymbol, placed, symbols, heads}
 use Rattle.reader.specs.Grammar.{Spells, adds, subtracts, sequence, loops, whiles}
-use Rattle.reader.specs.Machine.{Expect, statement, more, loop_register, while_register, Step, to_next, to_end, to_loop, to_while, to_loop_register, to_loop_do, to_while_register, to_unequal, to_zero, to_while_do, refused, judge}
+use Rattle.reader.specs.Machine.{Expect, statement, loop_register, while_register, to_next, to_end, to_loop, to_while, to_loop_register, to_loop_do, to_while_register, to_unequal, to_zero, to_while_do, judge}
 use Rattle.reader.specs.Records.{statement_of, records_from, with_places}
 use Rattle.filing.specs.Tables.{overwrite}
 use Rattle.reader.specs.Expecting.{Sign, sign_plus, sign_minus, Assigned, assigned, LoopHeadRead, WhileHeadRead}

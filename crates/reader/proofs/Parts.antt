@@ -4,7 +4,7 @@ use Rattle.std.proofs.Common.{◌≡◌, ℕ, suc, ◌+◌, ◌<◌, ◌≤◌, 
 use Rattle.reader.specs.Sheet.{Sheet, done, plus, minus, loop, while, then, Within}
 use Rattle.reader.specs.Symbols.{Symbol, LOOP, WHILE, DO, END, number, register, assign, unequal, plus_sign, minus_sign, semicolon, PlacedSymbol, symbols, Flaw, Opens, opens_loop, IsLoop, is_loop, separating, looping, placed}
 use Rattle.reader.specs.Grammar.{Spells, adds, subtracts, sequence, loops, whiles}
-use Rattle.reader.specs.Machine.{Expect, statement, becomes, source, sign, constant, loop_register, loop_do, while_register, while_unequal, while_zero, while_do, more, Step, to_target, to_loop, to_while, to_assign, to_source, to_plus, to_minus, to_constant, to_loop_register, to_loop_do, to_while_register, to_unequal, to_zero, to_while_do, to_next, to_end, Begun, begun, Verdict, refused, judge, verdict}
+use Rattle.reader.specs.Machine.{Expect, statement, more, Step, to_target, to_loop, to_while, to_assign, to_source, to_plus, to_minus, to_constant, to_loop_register, to_loop_do, to_while_register, to_unequal, to_zero, to_while_do, to_next, to_end, Begun, refused, judge, verdict}
 use Rattle.reader.specs.Faults.{FirstFault}
 use Rattle.reader.specs.Claims.{Says}
 use Rattle.reader.proofs.Exactly.{exact}

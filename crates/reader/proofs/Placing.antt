@@ -1,10 +1,10 @@
 -- The records of parts that stand one behind the other, with their places.
-use Rattle.std.proofs.Common.{◌≡◌, ℕ, zero, suc, ◌+◌, List, [], ◌∷◌, ◌++◌, length, sym, refl, ap, ◌∙◌, subst, ap₂, append_assoc, append-nil, add-zero, arith}
+use Rattle.std.proofs.Common.{◌≡◌, ℕ, zero, suc, ◌+◌, List, [], ◌∷◌, ◌++◌, length, sym, refl, ap, ◌∙◌, ap₂, append_assoc, append-nil, add-zero, arith}
 use Rattle.reader.specs.declared.types.Placed.{Placed}
 use Rattle.reader.specs.declared.types.Kind.TheVariants as kind
 use Rattle.reader.specs.declared.types.Statement.{Statement}
 use Rattle.reader.specs.Sheet.{Sheet, done, plus, minus, loop, while, then, size}
-use Rattle.reader.specs.Symbols.{Symbol, END, semicolon, PlacedSymbol, placed, symbols, separating, heads_after, heads}
+use Rattle.reader.specs.Symbols.{END, semicolon, PlacedSymbol, placed, symbols, separating, heads_after, heads}
 use Rattle.reader.specs.Grammar.{Spells}
 use Rattle.reader.specs.Records.{statement_of, records_from, with_places}
 use Rattle.reader.proofs.Reaches.{starting}

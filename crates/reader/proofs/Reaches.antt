@@ -1,8 +1,8 @@
 -- The states that symbols reach: symbols begin a program just where they reach one.
-use Rattle.std.proofs.Common.{◌≡◌, ℕ, zero, suc, ◌+◌, ◌-◌, ◌<◌, ◌≤◌, max, List, [], ◌∷◌, ◌++◌, sym, refl, ap, ◌∙◌, subst, append_assoc, append-nil, arith}
-use Rattle.reader.specs.Sheet.{Sheet, depth}
-use Rattle.reader.specs.Symbols.{Symbol, LOOP, WHILE, DO, END, number, register, assign, unequal, plus_sign, minus_sign, semicolon, opening, closing, separating, total, level, Starts, at_first, behind_semicolon, behind_do}
-use Rattle.reader.specs.Grammar.{Spells, Program, Begins}
+use Rattle.std.proofs.Common.{◌≡◌, ℕ, zero, suc, ◌+◌, ◌≤◌, max, List, [], ◌∷◌, ◌++◌, sym, refl, ◌∙◌, subst, append_assoc, append-nil, arith}
+use Rattle.reader.specs.Sheet.{depth}
+use Rattle.reader.specs.Symbols.{Symbol, DO, END, semicolon, opening, closing, separating, total, level, Starts, at_first, behind_semicolon, behind_do}
+use Rattle.reader.specs.Grammar.{Program, Begins}
 use Rattle.reader.specs.Machine.{Expect, statement, becomes, source, sign, constant, loop_register, loop_do, while_register, while_unequal, while_zero, while_do, more, Step, to_target, to_loop, to_while, to_assign, to_source, to_plus, to_minus, to_constant, to_loop_register, to_loop_do, to_while_register, to_unequal, to_zero, to_while_do, to_next, to_end, Begun, begun}
 use Rattle.reader.proofs.Runs.{Run, at_last, onward, runs, spelled}
 

@@ -1,10 +1,10 @@
 -- A text reads in one way.
-use Rattle.std.proofs.Common.{◌≡◌, ℕ, zero, suc, ◌+◌, ◌<◌, ◌≤◌, Bool, true, false, cond, ◌&&◌, T, eqb, leb, List, [], ◌∷◌, ◌++◌, length, get_or, sym, refl, ap, ◌∙◌, subst, ap₂, arith, leb→le}
+use Rattle.std.proofs.Common.{◌≡◌, ℕ, suc, ◌+◌, ◌≤◌, Bool, true, false, cond, ◌&&◌, T, eqb, leb, List, [], ◌∷◌, ◌++◌, length, sym, refl, ap, ◌∙◌, subst, ap₂, arith, leb→le}
 use mathlib.Core.List.{append_cancel_left}
 use Rattle.std.specs.Char.{is_ascii_alphanumeric, is_ascii_digit}
 use Rattle.std.proofs.lemmas.Bool.Decides.{nat_tests}
-use Rattle.reader.specs.Symbols.{Symbol, LOOP, WHILE, DO, END, number, register, assign, unequal, plus_sign, minus_sign, semicolon, strange, stray, PlacedSymbol, symbols, heads, placed}
-use Rattle.reader.specs.Text.{Blank, space, line_feed, Mark, mark_assign, mark_unequal, mark_plus, mark_minus, mark_semicolon, Numeral, just_zero, some_digits, value, Word, word_loop, word_while, word_do, word_end, word_number, word_register, Means, a_word, no_word, AllAlnum, Stops, Reads, the_end, a_blank, a_mark, a_run, a_stray}
+use Rattle.reader.specs.Symbols.{Symbol, LOOP, WHILE, DO, END, number, register, assign, unequal, plus_sign, minus_sign, semicolon, strange, PlacedSymbol, placed}
+use Rattle.reader.specs.Text.{Blank, space, line_feed, Mark, mark_assign, mark_unequal, mark_plus, mark_minus, mark_semicolon, just_zero, some_digits, value, Word, word_loop, word_while, word_do, word_end, word_number, word_register, Means, a_word, no_word, AllAlnum, Stops, Reads, the_end, a_blank, a_mark, a_run, a_stray}
 use Rattle.reader.specs.Printed.{bytes_of}
 
 pub both_hold : (a b : Bool) → T (a && b) → T a × T b

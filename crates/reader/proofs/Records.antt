@@ -1,10 +1,10 @@
 -- What the records tell.
-use Rattle.std.proofs.Common.{◌≡◌, ℕ, zero, suc, ◌+◌, ◌<◌, ◌≤◌, ◌⊎◌, List, [], ◌∷◌, ◌++◌, length, sym, refl, ap, ◌∙◌, subst, inl, inr, arith, length-append}
+use Rattle.std.proofs.Common.{◌≡◌, ℕ, zero, suc, ◌+◌, ◌≤◌, List, [], ◌∷◌, ◌++◌, length, sym, refl, ap, ◌∙◌, arith, length-append}
 use Rattle.reader.specs.Sheet.{Sheet, done, plus, minus, loop, while, size}
-use Rattle.reader.specs.Symbols.{Symbol, LOOP, WHILE, DO, END, number, register, assign, unequal, plus_sign, minus_sign, semicolon, stray, strange, PlacedSymbol, symbols, separating, total, heads_after, heads}
+use Rattle.reader.specs.Symbols.{Symbol, LOOP, WHILE, DO, END, number, register, assign, unequal, plus_sign, minus_sign, semicolon, stray, strange, PlacedSymbol, symbols, separating, total, heads_after}
 use Rattle.reader.specs.Grammar.{Spells, adds, subtracts, sequence, loops, whiles}
 use Rattle.reader.specs.declared.types.Statement.{Statement}
-use Rattle.reader.specs.Records.{kind_number, statement_of, records_from, records}
+use Rattle.reader.specs.Records.{kind_number, records_from}
 use Rattle.reader.specs.Claims.{RecordsTellSheet, RecordForEachStatement}
 use Rattle.reader.proofs.Reaches.{starting}
 use Rattle.reader.proofs.Counts.{size_spelled}

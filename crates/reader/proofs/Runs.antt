@@ -1,10 +1,10 @@
 -- The machine's runs to the end, under a top of the levels, are the spellings of sheets of that depth.
 --
-use Rattle.std.proofs.Common.{◌≡◌, ℕ, zero, suc, ◌+◌, ◌<◌, ◌≤◌, max, List, [], ◌∷◌, ◌++◌, sym, refl, ap, ◌∙◌, subst, append_assoc, append-nil, arith}
+use Rattle.std.proofs.Common.{◌≡◌, ℕ, suc, ◌+◌, ◌≤◌, max, List, [], ◌∷◌, ◌++◌, sym, subst, append_assoc, append-nil, arith}
 use Rattle.reader.specs.Sheet.{Sheet, done, plus, minus, loop, while, then, depth}
-use Rattle.reader.specs.Symbols.{Symbol, LOOP, WHILE, DO, END, number, register, assign, unequal, plus_sign, minus_sign, semicolon}
+use Rattle.reader.specs.Symbols.{Symbol, LOOP, WHILE, DO, END, number, register, unequal, semicolon}
 use Rattle.reader.specs.Grammar.{Spells, adds, subtracts, sequence, loops, whiles}
-use Rattle.reader.specs.Machine.{Expect, statement, becomes, source, sign, constant, loop_register, loop_do, while_register, while_unequal, while_zero, while_do, more, Step, to_target, to_loop, to_while, to_assign, to_source, to_plus, to_minus, to_constant, to_loop_register, to_loop_do, to_while_register, to_unequal, to_zero, to_while_do, to_next, to_end}
+use Rattle.reader.specs.Machine.{Expect, statement, more, Step, to_target, to_loop, to_while, to_assign, to_source, to_plus, to_minus, to_constant, to_loop_register, to_loop_do, to_while_register, to_unequal, to_zero, to_while_do, to_next, to_end}
 
 -- from a state the symbols lead to the end, over at most `top` levels
 pub data Run (top : ℕ) : Expect → ℕ → List Symbol → Type 0 where

@@ -1,10 +1,9 @@
 -- Every text can be read as symbols.
-use Rattle.std.proofs.Common.{◌≡◌, ℕ, zero, suc, ◌+◌, ◌<◌, ◌≤◌, Bool, true, false, T, List, [], ◌∷◌, ◌++◌, length, codes, sym, refl, ap, ◌∙◌, subst, ap₂, arith, length-append}
+use Rattle.std.proofs.Common.{◌≡◌, ℕ, zero, suc, ◌+◌, ◌<◌, ◌≤◌, Bool, true, false, T, List, [], ◌∷◌, ◌++◌, length, codes, sym, refl, ap, subst, ap₂, arith, length-append}
 use native.Mathlib.Decide.{ℕ_discrete, dec_lt}
 use Rattle.std.specs.Char.{is_ascii_alphanumeric, is_ascii_digit}
 use Rattle.std.specs.Str.{all_ascii_digits}
-use Rattle.reader.specs.Sheet.{Sheet, size}
-use Rattle.reader.specs.Symbols.{Symbol, LOOP, WHILE, DO, END, number, register, assign, unequal, plus_sign, minus_sign, semicolon, strange, stray, PlacedSymbol, heads, placed}
+use Rattle.reader.specs.Symbols.{Symbol, LOOP, WHILE, DO, END, number, register, assign, unequal, plus_sign, minus_sign, semicolon, strange, stray, PlacedSymbol, placed}
 use Rattle.reader.specs.Text.{Blank, space, line_feed, Mark, mark_assign, mark_unequal, mark_plus, mark_minus, mark_semicolon, Numeral, just_zero, some_digits, value, Word, word_loop, word_while, word_do, word_end, word_number, word_register, Means, a_word, no_word, AllAlnum, Stops, Reads, the_end, a_blank, a_mark, a_run, a_stray}
 
 unfoldable pub holds? : (b : Bool) → Dec (T b)

@@ -1,5 +1,5 @@
 -- A whole text: what the parser accepts and refuses is what the grammar and the table of refusals say.
-use Rattle.std.proofs.Common.{◌≡◌, ℕ, suc, ◌+◌, ◌-◌, ◌<◌, ◌≤◌, min, List, [], ◌∷◌, ◌++◌, length, take, drop, set, replicate, Some, None, Ok, Err, Option, Result, sym, refl, ap, ◌∙◌, subst, append_assoc, append-nil, zero-add, arith, length-set}
+use Rattle.std.proofs.Common.{◌≡◌, ℕ, suc, ◌+◌, ◌-◌, ◌<◌, ◌≤◌, List, [], ◌∷◌, ◌++◌, length, take, drop, set, Some, None, Ok, Err, Option, sym, ap, ◌∙◌, subst, append_assoc, append-nil, zero-add, arith, length-set}
 use Rattle.std.proofs.lemmas.List.{take_more_set}
 use Rattle.reader.specs.declared.types.Placed.{Placed}
 use Rattle.reader.specs.declared.types.Refusal.{Refusal}
@@ -7,22 +7,21 @@ use Rattle.reader.specs.declared.types.Refusal.TheVariants.{TreeFull}
 use Rattle.reader.specs.declared.types.Lexeme.{Lexeme}
 use Rattle.reader.specs.declared.types.Statement.{Statement}
 use Rattle.reader.specs.declared.parser.Parser.{Parser}
-use Rattle.reader.specs.Sheet.{Sheet, Within, size}
+use Rattle.reader.specs.Sheet.{Within, size}
 use Rattle.reader.specs.Symbols.{PlacedSymbol, placed, symbols, heads}
-use Rattle.reader.specs.Grammar.{Spells}
 use Rattle.reader.specs.Text.{Reads}
-use Rattle.reader.specs.Machine.{statement, more, accepted, judge, verdict}
+use Rattle.reader.specs.Machine.{accepted, judge, verdict}
 use Rattle.reader.specs.Claims.{Says}
-use Rattle.reader.specs.Records.{records, records_from, with_places, zero_record, cleared}
+use Rattle.reader.specs.Records.{records, with_places, cleared}
 use Rattle.filing.specs.Tables.{overwrite}
-use Rattle.reader.specs.Reading.{Lexed, Sheeted, ReadAnswers, accepted as accepts, faulty, tree_full}
+use Rattle.reader.specs.Reading.{Sheeted, ReadAnswers, accepted as accepts, faulty, tree_full}
 use Rattle.reader.specs.Lexing.{Between}
 use Rattle.reader.specs.Expecting.{Over}
-use Rattle.reader.specs.Parsing.{text_of, pos_of, memory_of, Parsed, RefusedBehind, Follows, BodyRead, Fresh, SheetRefused, sheet_faulty, sheet_large, SheetRead}
+use Rattle.reader.specs.Parsing.{text_of, pos_of, memory_of, Parsed, RefusedBehind, Follows, Fresh, SheetRefused, sheet_faulty, sheet_large, SheetRead}
 use Rattle.reader.proofs.Exactly.{exact}
 use Rattle.reader.proofs.Uniquely.{unique}
-use Rattle.reader.proofs.Overwriting.{length-overwrite, overwrite_append}
-use Rattle.reader.proofs.Placing.{placed_records, length-placed}
+use Rattle.reader.proofs.Overwriting.{length-overwrite}
+use Rattle.reader.proofs.Placing.{length-placed}
 use Rattle.reader.proofs.Refusing.{sheet_open}
 
 module _ (room : ℕ) (a : Parser) (fresh : Fresh room a) where

@@ -1,5 +1,5 @@
 -- Which token stands at a place of a text, and what is read there.
-use Rattle.std.proofs.Common.{◌≡◌, ℕ, zero, suc, ◌+◌, ◌-◌, ◌<◌, ◌≤◌, Bool, true, false, T, List, [], ◌∷◌, ◌++◌, length, get_or, take, drop, Some, None, Ok, Err, codes, Option, Result, sym, refl, ap, ◌∙◌, subst, ⊎_elim, add-zero, add-one, arith, length-append, length-drop, length-take}
+use Rattle.std.proofs.Common.{◌≡◌, ℕ, suc, ◌+◌, ◌-◌, ◌<◌, ◌≤◌, false, T, List, [], ◌∷◌, ◌++◌, length, get_or, take, drop, Some, None, Ok, Err, codes, Option, Result, sym, refl, ap, ◌∙◌, subst, ⊎_elim, add-zero, arith, length-append, length-drop, length-take}
 use Rattle.std.specs.Char.{is_ascii_alphanumeric}
 use Rattle.std.proofs.lemmas.List.{drop_more, drop_all, drop-drop, drop_at, take-append-drop, get_or-drop}
 use Rattle.std.proofs.str.Laws.{order}
@@ -11,8 +11,8 @@ use Rattle.reader.specs.declared.types.Token.TheVariants as token
 use Rattle.reader.specs.Refusals.{refusal_number}
 use Rattle.reader.specs.Symbols.{Symbol, stray, PlacedSymbol, placed, Flaw}
 use Rattle.reader.specs.Text.{Blank, Mark, mark_assign, mark_unequal, mark_plus, mark_minus, mark_semicolon, Means, AllAlnum, Stops, Reads, the_end, a_mark, a_run, a_stray}
-use Rattle.reader.specs.Lexing.{meant, Fine, WordTold, TokenTold, width, Sorted, Run, Front, Stands, MarkTold, Between, Stray, TokenRead}
-use Rattle.reader.proofs.Lexing.{truth, not_both}
+use Rattle.reader.specs.Lexing.{meant, Fine, WordTold, TokenTold, width, Run, Front, Stands, MarkTold, Between, Stray, TokenRead}
+use Rattle.reader.proofs.Lexing.{not_both}
 use Rattle.reader.proofs.Scanning.{scanned}
 
 -- the symbols from a place on, whatever stands there

@@ -1,10 +1,10 @@
 -- What words and marks say.
-use Rattle.std.proofs.Common.{◌≡◌, ℕ, ◌<◌, ◌≤◌, Bool, true, false, T, List, [], ◌∷◌, ◌++◌, length, get_or, drop, None, Ok, Err, codes, Decides, Result, sym, refl, ap, ◌∙◌, subst, arith}
-use Rattle.std.specs.Cmp.Lexicographic.{Matches}
+use Rattle.std.proofs.Common.{◌≡◌, ℕ, ◌<◌, ◌≤◌, Bool, true, false, List, [], ◌∷◌, ◌++◌, length, get_or, drop, None, Ok, Err, codes, Result, nat_eq, sym, refl, ap, ◌∙◌, subst, arith}
 use Rattle.std.proofs.lemmas.Slice.Eq.{slice_eq-Decides}
 use Rattle.std.proofs.lemmas.Bool.Decides.{not_from_Decides, Decides-eqb}
 use Rattle.std.proofs.lemmas.Slice.{between_to_end}
 use Rattle.std.specs.List.{between}
+use Rattle.std.specs.Cmp.Lexicographic.{pointwise}
 use Rattle.reader.specs.declared.types.Refusal.{Refusal}
 use Rattle.reader.specs.declared.types.Refusal.TheVariants.{StrangeWord, TooBig}
 use Rattle.reader.specs.declared.types.Lexeme.{Lexeme}
@@ -13,8 +13,8 @@ use Rattle.reader.specs.Symbols.{Symbol, number, register, strange, big_number, 
 use Rattle.reader.specs.Text.{Mark, mark_assign, mark_unequal, mark_plus, mark_minus, mark_semicolon, Numeral, just_zero, some_digits, value, Word, word_number, word_register, Means, a_word, no_word}
 use Rattle.reader.specs.Lexing.{NumberTold, small_number, large_number, no_number, RegisterTold, small_register, large_register, no_register, WordTold, digit_first, MarkTold}
 use Rattle.reader.proofs.Counts.{fine_number, fine_register}
-use Rattle.reader.proofs.Lexing.{truth, true_of, not_both, digits_of}
-use Rattle.reader.proofs.Scanning.{Register, is_no_word}
+use Rattle.reader.proofs.Lexing.{truth, true_of, not_both}
+use Rattle.reader.proofs.Scanning.{is_no_word}
 
 -- numbers
 pub told_small : (w : List ℕ) (n : ℕ) → Numeral w → n ≡ value w → n ≤ 999999 → NumberTold w (Ok n)
@@ -65,7 +65,7 @@ module _ (w : List ℕ) (some : 0 < length w) (x : get_or w 0 0 ≡ 120) where
       go e (no_number f) = no_register (λ ks a n. f (subst Numeral (same e a) n))
 
 -- words
-module _ (w l : List ℕ) (r : Bool) (m : Matches (λ (x y : ℕ) (t : Bool). Decides t (x ≡ y)) w l r) where
+module _ (w l : List ℕ) (r : Bool) (m : r ≡ pointwise nat_eq w l) where
   pub is_word : {s : Symbol} → Word l s → r ≡ true → Means w s
   is_word {s} v t = a_word (subst (λ (k : List ℕ). Word k s) (sym ((slice_eq-Decides Decides-eqb w l r m).0 t)) v)
 

@@ -1,5 +1,5 @@
 -- A cue sheet: a list of statements, where LOOP and WHILE hold a sheet of their own, the body.
-use Rattle.std.specs.Prelude.{ℕ, zero, suc, ◌+◌, ◌≤◌, max}
+use Rattle.std.specs.Prelude.{ℕ, suc, ◌+◌, ◌≤◌, max}
 
 pub data Sheet : Type 0 where
   done : Sheet

@@ -116,13 +116,13 @@ fn word_lexeme(word: &[u8]) -> Result<Lexeme, Refusal>
     requires { digit_first word.now ≡ false }
     ensures { WordTold word.now result }
 {
-    if word == b"LOOP" {
+    if word == b"LOOP".as_slice() {
         Ok(Lexeme::Loop)
-    } else if word == b"WHILE" {
+    } else if word == b"WHILE".as_slice() {
         Ok(Lexeme::While)
-    } else if word == b"DO" {
+    } else if word == b"DO".as_slice() {
         Ok(Lexeme::Do)
-    } else if word == b"END" {
+    } else if word == b"END".as_slice() {
         Ok(Lexeme::End)
     } else {
         register(word)

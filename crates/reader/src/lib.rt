@@ -1,4 +1,6 @@
 // The reader of cue sheets: text to statement records, and records to text.
+#![tactic(auto)]
+
 mod check;
 mod cursor;
 pub mod laws;

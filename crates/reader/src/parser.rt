@@ -1,11 +1,11 @@
 ghost use Rattle.std.specs.Prelude.{ℕ, ◌≤◌};
 
-mod filing;
 mod parsing;
+mod record_filing;
 
 use crate::cursor::Cursor;
 use crate::types::{Placed, Statement};
-pub(crate) use filing::clear_from;
+pub(crate) use record_filing::clear_from;
 
 // How many statements and LOOPs have begun, within the limits of a sheet.
 #[derive(Drop)]

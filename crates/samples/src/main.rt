@@ -1,4 +1,6 @@
 // Reads samples, a line for each, and prints what was found in the sheet of each.
+#![tactic(auto)]
+
 mod escape;
 mod finding;
 

@@ -1,4 +1,6 @@
 // The code of a sheet as text.
+#![tactic(auto)]
+
 mod line;
 mod listing;
 

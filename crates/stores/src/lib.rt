@@ -1,4 +1,6 @@
 // Register stores: what a store means, and the stores that are built.
+#![tactic(auto)]
+
 pub mod decimal;
 pub mod flat;
 mod limits;

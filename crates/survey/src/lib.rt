@@ -1,4 +1,6 @@
 // What is counted in a sheet: in its records, and in its text.
+#![tactic(auto)]
+
 ghost use Rattle.std.specs.Prelude.{◌≡◌, ℕ, ◌<◌, ◌≤◌, length, ◌≢◌, slice_index};
 ghost use Rattle.survey.specs.Counts.{block_count, level_count, blocks_around, Deepest, LoopsOfSheet, DepthOfSheet};
 ghost use Rattle.reader.specs.Checks.{loop_count, loops_in};

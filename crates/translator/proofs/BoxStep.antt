@@ -1,6 +1,6 @@
 -- One box step: it is silent, or it is one written step, or both wait, or both have ended.
 use Rattle.std.proofs.Common.{◌≡◌, ℕ, zero, suc, ◌+◌, ◌-◌, ◌*◌, ◌<◌, ◌≤◌, Bool, true, false, T, leb, List, [], ◌∷◌, length, get_or, take, set, sym, refl, ap, ◌∙◌, subst, suc-le-suc, add-zero, arith, le→leb, leb→le, length-set, get_or-set_other, get_or-take, get_or-set_same}
-use mathlib.Core.Option.{Option, none, some}
+use mathlib.Core.Option.{Option, some}
 use lib.ListN.{get_elem?}
 use lib.Seq.{take-set-lt, take-set-le}
 use Rattle.reader.specs.Sheet.{Sheet, done, plus, minus, loop, while, then, Some}

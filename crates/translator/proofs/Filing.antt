@@ -1,5 +1,5 @@
 -- What is filed in a table of instructions, index by index.
-use Rattle.std.proofs.Common.{◌≡◌, ℕ, zero, suc, ◌+◌, ◌-◌, ◌<◌, ◌≤◌, min, max, Bool, true, false, T, ◌⊎◌, List, [], ◌∷◌, ◌++◌, length, get_or, take, drop, set, replicate, Some, None, Option, sym, refl, ap, ◌∙◌, subst, inl, inr, arith, length-append, length-set, length-take}
+use Rattle.std.proofs.Common.{◌≡◌, ℕ, zero, suc, ◌+◌, ◌-◌, ◌<◌, ◌≤◌, min, max, Bool, true, false, T, List, [], ◌∷◌, ◌++◌, length, get_or, take, drop, set, replicate, Some, None, Option, sym, refl, ap, ◌∙◌, subst, inl, inr, arith, length-append, length-set, length-take}
 use mathlib.Core.Option.{some, none}
 use lib.ListN.{get_elem?, length-replicate}
 use Rattle.std.proofs.lemmas.List.{get_or-take, get_or_read, at_drop_more, at_drop_all}
@@ -11,8 +11,8 @@ use Rattle.translator.specs.declared.types.Role.{Role}
 use Rattle.translator.specs.declared.types.Operation.TheVariants.{If, Halt}
 use Rattle.translator.specs.declared.types.Instruction.{Instruction}
 use Rattle.translator.specs.JumpCode.{instruction, halt, instruction_at, fits, AllFit}
-use Rattle.translator.specs.Drafts.{draft_memory, laid, laid_code, next_label, filed, is_open, OpenAt, TestOf, TestAt, aimed, Replaced, Cleared}
-use Rattle.translator.specs.Seals.{AnyOpen, EndsInHalt, Sound, SealSays, SealRefuses, jump_open, bad_draft, Tells, answer}
+use Rattle.translator.specs.Drafts.{draft_memory, laid_code, next_label, filed, is_open, OpenAt, TestOf, TestAt, aimed, Replaced, Cleared}
+use Rattle.translator.specs.Seals.{EndsInHalt, Tells, answer}
 use Rattle.translator.specs.Width.{named, width}
 use Rattle.translator.proofs.Width.{width_low}
 

@@ -1,5 +1,5 @@
 -- Filing the flat statements of a sheet.
-use Rattle.std.proofs.Common.{◌≡◌, ℕ, zero, suc, ◌+◌, ◌-◌, ◌*◌, ◌^◌, ◌<◌, ◌≤◌, List, [], ◌∷◌, ◌++◌, length, get_or, take, drop, set, replicate, sym, refl, ap, ◌∙◌, subst, arith, length-append, length-drop, length-set, length-take}
+use Rattle.std.proofs.Common.{◌≡◌, ℕ, zero, suc, ◌+◌, ◌-◌, ◌<◌, ◌≤◌, List, [], ◌∷◌, ◌++◌, length, get_or, take, drop, set, replicate, sym, refl, ap, ◌∙◌, subst, arith, length-drop, length-set, length-take}
 use mathlib.Core.Option.{some}
 use lib.ListN.{get_elem?}
 use Rattle.reader.specs.Sheet.{Sheet, done, plus, minus, loop, while, size, loops}
@@ -11,11 +11,10 @@ use Rattle.reader.specs.declared.types.Statement.{Statement}
 use Rattle.reader.specs.Symbols.{placed}
 use Rattle.reader.specs.Records.{statement_of, records_from, with_places, zero_record}
 use Rattle.filing.specs.Tables.{memory, count, lent, overwrite}
-use Rattle.translator.specs.declared.types.Role.{Role}
 use Rattle.translator.specs.declared.types.Role.TheVariants as role
 use Rattle.translator.specs.declared.types.Flat.{Flat}
 use Rattle.translator.specs.Counters.{counters_end}
-use Rattle.translator.specs.Translation.{FlatSheet, flat_from, flat, flat_size, placed_flats, flat_records_from, flat_places, flats_with_places}
+use Rattle.translator.specs.Translation.{flat_from, flat, flat_size, placed_flats, flat_records_from, flat_places, flats_with_places}
 use Rattle.translator.specs.Laying.{Stands}
 use Rattle.translator.specs.Flattening.{RecordSpan, flatted, flat_of, InMemory, OneFiled, Same, FlatsFiled, FlatsLeft, StatementFlat, FlatsOver, Steady, LoopOpened, Flattened, zero_placed_flat}
 use Rattle.reader.proofs.Overwriting.{overwrite_append}

@@ -1,6 +1,6 @@
 -- A sheet that meets the bounds.
 use Rattle.std.proofs.Common.{ℕ, zero, suc, refl, arith, lit≤}
-use Rattle.reader.specs.Sheet.{Sheet, done, plus, minus, loop, while, then, Some, Whole, Fit}
+use Rattle.reader.specs.Sheet.{Sheet, Some, Whole, Fit}
 use Rattle.reader.specs.WrittenRun.{times}
 use Rattle.reader.proofs.Spelled.{whole_then}
 use Rattle.reader.proofs.Counts.{fit_then}

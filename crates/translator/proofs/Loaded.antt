@@ -1,31 +1,28 @@
 -- What a load fills and refuses.
-use Rattle.std.proofs.Common.{◌≡◌, ℕ, suc, ◌+◌, ◌-◌, ◌<◌, ◌≤◌, List, [], ◌∷◌, ◌++◌, map, length, take, replicate, Ok, Err, Result, sym, refl, ap, ◌∙◌, subst, arith, length-append}
-use mathlib.Core.Option.{some}
-use lib.ListN.{get_elem?, length-replicate}
+use Rattle.std.proofs.Common.{◌≡◌, ℕ, suc, ◌-◌, ◌<◌, ◌≤◌, List, [], ◌∷◌, ◌++◌, map, length, replicate, Ok, Err, Result, sym, refl, ap, ◌∙◌, subst, arith, length-append}
+use lib.ListN.{length-replicate}
 use Rattle.reader.specs.declared.types.Placed.{Placed}
 use Rattle.reader.specs.declared.types.Refusal.{Refusal}
 use Rattle.reader.specs.declared.types.Refusal.TheVariants.{FlatFull, CodeFull}
 use Rattle.reader.specs.declared.types.Statement.{Statement}
-use Rattle.reader.specs.Sheet.{Sheet, size, loops, Within}
-use Rattle.reader.specs.Symbols.{PlacedSymbol, placed, heads}
+use Rattle.reader.specs.Sheet.{Sheet, size, Within}
+use Rattle.reader.specs.Symbols.{placed, heads}
 use Rattle.reader.specs.Records.{records, with_places, cleared}
-use Rattle.reader.specs.Reading.{Lexed, Sheeted, ReadAnswers, accepted, overlong, faulty, tree_full}
+use Rattle.reader.specs.Reading.{ReadAnswers, accepted, overlong, faulty, tree_full}
 use Rattle.reader.proofs.Records.{counted}
 use Rattle.translator.specs.declared.draft.Draft.{Draft}
 use Rattle.translator.specs.declared.draft.SealedCode.{SealedCode}
 use Rattle.translator.specs.declared.types.Flat.{Flat}
 use Rattle.translator.specs.declared.types.Instruction.{Instruction}
-use Rattle.translator.specs.declared.types.Stage.TheVariants.{Read, Flatten, Lay}
-use Rattle.translator.specs.declared.types.Fault.{Fault}
+use Rattle.translator.specs.declared.types.Stage.TheVariants.{Flatten, Lay}
 use Rattle.translator.specs.JumpCode.{halt}
-use Rattle.translator.specs.Counters.{sheet_width}
-use Rattle.translator.specs.Translation.{flat, flat_size, compiled, placed_flats, flat_places, flat_records, flat_records_from, flats_with_places}
+use Rattle.translator.specs.Translation.{flat, flat_size, compiled, flat_places, flat_records, flats_with_places}
 use Rattle.translator.specs.Width.{width}
 use Rattle.translator.specs.Drafts.{draft_memory, laid_code, filed, OpenAt}
-use Rattle.translator.specs.Seals.{sealed_memory, sealed_code, sealed_width, Sound, SealRefuses, jump_open, bad_draft}
+use Rattle.translator.specs.Seals.{sealed_width, Sound, SealRefuses, jump_open, bad_draft}
 use Rattle.translator.specs.Laying.{Stands, FlatSpan, Coded}
-use Rattle.translator.specs.Flattening.{RecordSpan, Flattened, zero_placed_flat}
-use Rattle.translator.specs.Loading.{fault, cleared_flats, cleared_code, SpelledSheet, Prepared, Loaded, LoadRefuses, unread, unflattened, unlaid}
+use Rattle.translator.specs.Flattening.{RecordSpan, Flattened}
+use Rattle.translator.specs.Loading.{fault, cleared_flats, SpelledSheet, Prepared, Loaded, LoadRefuses, unflattened, unlaid}
 use Rattle.translator.proofs.FlatFiled.{same_long}
 use Rattle.translator.proofs.SealedSheets.{sheet_sealed}
 use Rattle.translator.proofs.Width.{code_width}

@@ -1,9 +1,9 @@
 -- A text and three memories have one answer of load.
-use Rattle.std.proofs.Common.{◌≡◌, ℕ, ◌-◌, ◌<◌, ◌≤◌, List, ◌++◌, length, Ok, Err, Result, sym, refl, ap, ◌∙◌, ap₂, arith}
+use Rattle.std.proofs.Common.{◌≡◌, ℕ, ◌-◌, ◌≤◌, List, ◌++◌, length, Err, Result, sym, refl, ap, ◌∙◌, ap₂, arith}
 use Rattle.reader.specs.declared.types.Placed.{Placed}
 use Rattle.reader.specs.declared.types.Refusal.{Refusal}
 use Rattle.reader.specs.Sheet.{Sheet, size}
-use Rattle.reader.specs.Symbols.{PlacedSymbol, heads}
+use Rattle.reader.specs.Symbols.{heads}
 use Rattle.reader.specs.Records.{records, with_places, cleared}
 use Rattle.reader.specs.Reading.{ReadAnswers, accepted}
 use Rattle.reader.proofs.OneAnswer.{same_symbols, same_sheet, one_answer}
@@ -11,7 +11,7 @@ use Rattle.translator.specs.declared.types.Fault.{Fault}
 use Rattle.translator.specs.declared.types.Stage.TheVariants.{Read}
 use Rattle.translator.specs.Counters.{sheet_width}
 use Rattle.translator.specs.Translation.{flat, flat_size, compiled, placed_flats}
-use Rattle.translator.specs.Loading.{fault, cleared_flats, cleared_code, SpelledSheet, Loaded, LoadRefuses, unread, unflattened, unlaid, SameCode, LoadIsUnique}
+use Rattle.translator.specs.Loading.{fault, cleared_flats, cleared_code, SpelledSheet, Loaded, LoadRefuses, unread, unflattened, unlaid, LoadIsUnique}
 
 -- a text spells one sheet, with one list of places
 spelled_once : (text : List ℕ) {p q : Sheet} {xs ys : List ℕ} → SpelledSheet text p xs → SpelledSheet text q ys → (p ≡ q) × (xs ≡ ys)

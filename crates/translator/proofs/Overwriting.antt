@@ -1,5 +1,5 @@
 -- Memory that is filled from an index on.
-use Rattle.std.proofs.Common.{◌≡◌, ℕ, suc, ◌+◌, ◌<◌, ◌≤◌, List, [], ◌∷◌, ◌++◌, length, get_or, take, set, sym, refl, ap, ◌∙◌, append_assoc, append-nil, add-zero, add-one, arith, length-set, get_or-set_other, get_or-set_same, set-set}
+use Rattle.std.proofs.Common.{◌≡◌, ℕ, suc, ◌+◌, ◌<◌, ◌≤◌, List, [], ◌∷◌, ◌++◌, length, get_or, take, set, sym, refl, ap, ◌∙◌, append_assoc, append-nil, add-zero, arith, length-set, get_or-set_other, get_or-set_same, set-set}
 use lib.Seq.{set_comm}
 use Rattle.std.proofs.lemmas.List.{take_more_set}
 use Rattle.filing.specs.Tables.{overwrite}

@@ -1,12 +1,12 @@
 -- The code of a sheet within the limits can be sealed.
-use Rattle.std.proofs.Common.{◌≡◌, ℕ, suc, ◌<◌, ◌≤◌, ◌&&◌, T, eqb, ltb, leb, List, length, get_or, sym, subst, arith, eqb→eq, ltb→lt, lt→ltb, leb→le}
+use Rattle.std.proofs.Common.{ℕ, suc, ◌≤◌, T, ltb, leb, List, length, get_or, arith, eqb→eq, ltb→lt, lt→ltb, leb→le}
 use Rattle.translator.specs.declared.types.Role.TheVariants as role
 use Rattle.translator.specs.declared.types.Operation.{Operation}
 use Rattle.translator.specs.declared.types.Operation.TheVariants.{Halt, Plus, Minus, If, Goto}
 use Rattle.translator.specs.declared.types.Instruction.{Instruction}
 use Rattle.translator.specs.JumpCode.{halt, fits, inside, AllFit}
 use Rattle.translator.specs.Drafts.{is_open}
-use Rattle.translator.specs.Seals.{AnyOpen, Sound}
+use Rattle.translator.specs.Seals.{AnyOpen}
 use Rattle.translator.specs.SealedSheets.{SheetIsSealed}
 use Rattle.translator.proofs.Fits.{and_true, and_left, and_right}
 use Rattle.translator.proofs.Filing.{elem_get_or}

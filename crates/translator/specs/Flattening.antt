@@ -1,6 +1,6 @@
 -- Filing the flat statements of a sheet whose records are given.
 use Rattle.std.specs.Prelude.{◌≡◌, ℕ, suc, ◌+◌, ◌-◌, ◌^◌, ◌<◌, ◌≤◌, List, ◌++◌, length, replicate, slice_set}
-use Rattle.reader.specs.Sheet.{Sheet, size, loops}
+use Rattle.reader.specs.Sheet.{Sheet, size}
 use Rattle.filing.specs.declared.table.Table.{Table}
 use Rattle.reader.specs.declared.types.Placed.{Placed}
 use Rattle.reader.specs.declared.types.Statement.{Statement}

@@ -7,7 +7,6 @@ use Rattle.reader.specs.Sheet.{Sheet}
 use Rattle.reader.specs.declared.types.Placed.{Placed}
 use Rattle.reader.specs.declared.types.Kind.{Kind}
 use Rattle.reader.specs.declared.types.Kind.TheVariants.{Zero, Plus, Minus, Loop, While}
-use Rattle.reader.specs.declared.types.Statement.{Statement}
 use Rattle.translator.specs.declared.draft.Draft.{Draft}
 use Rattle.translator.specs.declared.types.Operation.{Operation}
 use Rattle.translator.specs.declared.types.Operation.TheVariants as operation

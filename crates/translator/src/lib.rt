@@ -1,3 +1,5 @@
+#![tactic(auto)]
+
 pub mod draft;
 mod flatten;
 pub mod laws;

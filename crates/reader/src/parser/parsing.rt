@@ -5,7 +5,7 @@ ghost use Rattle.reader.specs.Machine.{Expect};
 ghost use Rattle.reader.specs.Records.{statement_of};
 ghost use Rattle.reader.specs.Parsing.{text_of, pos_of, memory_of, Kept, StatementRead, BodyRead, Opening, Block, Admitted, HeadRead, Fresh, SheetRead};
 
-use super::filing::{amend_record, file_record};
+use super::record_filing::{amend_record, file_record};
 use super::{Counts, Parser};
 use crate::cursor::{Cursor, out_of_order};
 use crate::types::{Kind, Lexeme, Placed, Refusal, Statement};

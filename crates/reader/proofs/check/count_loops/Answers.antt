@@ -4,8 +4,8 @@ use Rattle.reader.proofs.check.count_loops.Goals as goal
 
 pub loop-r-preserved : goal.loop-r-preserved
 loop-r-preserved c = (
-  loops_more c.args.records.now c.loop-r.r-index c.loop-r.count c.loop-number-count.result (omega arith) c.loop-number-count.ensures.value c.loop-r.invariant.0,
-  omega (arith, c.loop-r.invariant.1, c.loop-number-count.ensures.small),
+  loops_more c.args.records.now c.loop-r.r-index c.loop-r.count c.loop_number-count.result (omega arith) c.loop_number-count.ensures.value c.loop-r.invariant.0,
+  omega (arith, c.loop-r.invariant.1, c.loop_number-count.ensures.small),
 )
 
 pub returns : goal.returns

@@ -14,5 +14,5 @@ returns-then-second-eq61-2 c = (tt, two_bytes c.args.first c.args.second 33 61 (
 pub returns-else-second-eq61-2 : goal.returns-else-second-eq61-2
 returns-else-second-eq61-2 c = no_mark c.args.first c.args.second (λ e. omega arith) (λ e. omega arith) (λ e. omega arith) (λ e. omega arith) (λ e. c.if-second-eq61-2.false)
 
-pub returns-in-default : goal.returns-in-default
-returns-in-default c = no_mark c.args.first c.args.second (λ e. omega arith) (λ e. omega arith) (λ e. omega arith) (λ e. omega arith) (λ e. omega arith)
+pub returns-in_default : goal.returns-in_default
+returns-in_default c = no_mark c.args.first c.args.second (λ e. omega arith) (λ e. omega arith) (λ e. omega arith) (λ e. omega arith) (λ e. omega arith)

@@ -1,4 +1,4 @@
-use Rattle.std.proofs.Common.{◌≡◌, ◌+◌, ◌*◌, drop, sym, refl, ap, ◌∙◌, arith}
+use Rattle.std.proofs.Common.{◌+◌, ◌*◌, drop, sym, ap, ◌∙◌, arith}
 use Rattle.reader.specs.Text.{read_on}
 use Rattle.reader.proofs.Lexing.{big, value_more, value_all, digit_low, digit_high, digit_on}
 use Rattle.reader.proofs.lexer.value.Goals as goal
@@ -6,8 +6,8 @@ use Rattle.reader.proofs.lexer.value.Goals as goal
 pub returns-then-value-gt99999 : goal.returns-then-value-gt99999
 returns-then-value-gt99999 c = big c.args.digits.now c.loop-d.d-index (omega arith) c.loop-d.value (omega arith) c.loop-d.invariant.2
 
-pub overflow-sub-d : goal.overflow-sub-d
-overflow-sub-d c = let lo = digit_low c.args.digits.now c.loop-d.d-index (omega arith) c.loop-d.invariant.1 in omega arith
+pub overflow_sub-d : goal.overflow_sub-d
+overflow_sub-d c = let lo = digit_low c.args.digits.now c.loop-d.d-index (omega arith) c.loop-d.invariant.1 in omega arith
 
 pub loop-d-preserved : goal.loop-d-preserved
 loop-d-preserved c =

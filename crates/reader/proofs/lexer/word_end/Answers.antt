@@ -6,10 +6,10 @@ pub loop-at-init : goal.loop-at-init
 loop-at-init c = (omega arith, (λ h. h), alnum_none c.args.text.now c.args.from)
 
 pub loop-at-preserved : goal.loop-at-preserved
-loop-at-preserved c = (omega arith, λ h. omega arith, alnum_more c.args.text.now c.args.from c.loop-at.at (omega arith) (omega arith) (sym c.is-ascii-alphanumeric.ensures.value ∙ c.if-is-ascii-alphanumeric.true) c.loop-at.invariant.2)
+loop-at-preserved c = (omega arith, λ h. omega arith, alnum_more c.args.text.now c.args.from c.loop-at.at (omega arith) (omega arith) (sym c.is_ascii_alphanumeric.ensures.value ∙ c.if-is_ascii_alphanumeric.true) c.loop-at.invariant.2)
 
-pub returns-else-is-ascii-alphanumeric : goal.returns-else-is-ascii-alphanumeric
-returns-else-is-ascii-alphanumeric c = record { within = (omega arith, c.loop-at.invariant.1); alnum = c.loop-at.invariant.2; stops = stops_here c.args.text.now c.loop-at.at (omega arith) (sym c.is-ascii-alphanumeric.ensures.value ∙ c.if-is-ascii-alphanumeric.false) }
+pub returns-else-is_ascii_alphanumeric : goal.returns-else-is_ascii_alphanumeric
+returns-else-is_ascii_alphanumeric c = record { within = (omega arith, c.loop-at.invariant.1); alnum = c.loop-at.invariant.2; stops = stops_here c.args.text.now c.loop-at.at (omega arith) (sym c.is_ascii_alphanumeric.ensures.value ∙ c.if-is_ascii_alphanumeric.false) }
 
 pub returns-after-loop-at : goal.returns-after-loop-at
 returns-after-loop-at c = record { within = (omega arith, c.loop-at.invariant.1); alnum = c.loop-at.invariant.2; stops = stops_at_end c.args.text.now c.loop-at.at (omega arith) }

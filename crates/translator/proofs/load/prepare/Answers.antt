@@ -1,4 +1,4 @@
-use Rattle.std.proofs.Common.{◌≡◌, ℕ, length, Ok, Err, refl, ap, ◌∙◌, subst, rules}
+use Rattle.std.proofs.Common.{length, Ok, Err, refl, ap, ◌∙◌, subst}
 use Rattle.reader.specs.Records.{cleared}
 use Rattle.reader.specs.Reading.{ReadAnswers}
 use Rattle.translator.specs.Loading.{unread}

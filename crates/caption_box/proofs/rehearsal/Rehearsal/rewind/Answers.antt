@@ -21,6 +21,6 @@ returns g c =
       kept = λ h. first_rehearsed s c.first-self.ensures.index c.first-self.ensures.depth c.first-self.ensures.levels c.clear-self.ensures h.sheet;
       exact = rehearsal_rewound s c.first-self.ensures.index c.first-self.ensures.depth c.first-self.ensures.levels c.clear-self.ensures
           (g.S.Store.limit c.args.store.now) (g.S.Store.limit c.seat.new.store) (g.S.Store.numbers c.args.store.now)
-          (g.S.Store.numbers c.seat.new.store) c.args.inputs.now c.seat.result c.in-default.is c.seat.ensures.answer
+          (g.S.Store.numbers c.seat.new.store) c.args.inputs.now c.seat.result c.in_default.is c.seat.ensures.answer
           c.seat.ensures.numbers c.seat.ensures.top c.args.self.now refl;
     }

@@ -12,7 +12,7 @@ returns-in-Ok g c =
       exact = rehearsal_started s c.first.ensures.index c.first.ensures.depth c.first.ensures.levels c.clear.ensures
           (g.S.Store.limit c.args.store.now) (g.S.Store.limit c.seat.new.store) (g.S.Store.numbers c.args.store.now)
           (g.S.Store.numbers c.seat.new.store) c.args.inputs.now c.seat.result c.in-Ok.is c.seat.ensures.answer
-          c.seat.ensures.numbers c.seat.ensures.top (c.is-sheet.ensures.0 c.if-not-is-sheet.false);
+          c.seat.ensures.numbers c.seat.ensures.top (c.is_sheet.ensures.0 c.if-not-is_sheet.false);
     }
 
 pub returns-in-Err : goal.returns-in-Err
@@ -22,5 +22,5 @@ returns-in-Err g c =
       same = tt;
       exact = rehearsal_unstarted (g.S.Store.limit c.args.store.now) (g.S.Store.limit c.seat.new.store) (g.S.Store.numbers c.args.store.now)
           (g.S.Store.numbers c.seat.new.store) c.args.inputs.now c.seat.result c.in-Err.refusal c.in-Err.is c.seat.ensures.answer
-          c.seat.ensures.numbers c.seat.ensures.top c.args.records.now (c.is-sheet.ensures.0 c.if-not-is-sheet.false);
+          c.seat.ensures.numbers c.seat.ensures.top c.args.records.now (c.is_sheet.ensures.0 c.if-not-is_sheet.false);
     }

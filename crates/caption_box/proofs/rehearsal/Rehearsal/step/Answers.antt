@@ -9,10 +9,10 @@ returns-then-eq g c =
     record {
       same = refl;
       top = c.perform-found.ensures.top;
-      room = omega (arith, c.requires.room, ap length c.perform-found.ensures.stored ∙ stored-length c.record-at-statement.result.kind ν c.record-at-statement.result);
+      room = omega (arith, c.requires.room, ap length c.perform-found.ensures.stored ∙ stored-length c.record_at-statement.result.kind ν c.record_at-statement.result);
       most = c.raise.ensures.most;
-      exact = step_done c.args.self.now (g.S.Store.limit c.args.store.now) ν c.record-at-statement.result c.fate-state.result
-          c.record-at-statement.ensures c.fate-state.ensures c.if-eq.ensures (g.S.Store.numbers c.perform-found.new.store)
+      exact = step_done c.args.self.now (g.S.Store.limit c.args.store.now) ν c.record_at-statement.result c.fate-state.result
+          c.record_at-statement.ensures c.fate-state.ensures c.if-eq.ensures (g.S.Store.numbers c.perform-found.new.store)
           c.perform-found.result c.raise.new.self c.moved-self.result c.perform-found.ensures.stored c.perform-found.ensures.found v
           c.requires.more c.raise.ensures.counts c.moved-self.ensures;
     }
@@ -26,6 +26,6 @@ returns-else-eq g c =
       top = refl;
       room = c.requires.room;
       most = most;
-      exact = step_stays c.args.self.now (g.S.Store.limit c.args.store.now) (g.S.Store.numbers c.args.store.now) c.record-at-statement.result
-          c.fate-state.result c.record-at-statement.ensures c.fate-state.ensures c.if-eq.ensures;
+      exact = step_stays c.args.self.now (g.S.Store.limit c.args.store.now) (g.S.Store.numbers c.args.store.now) c.record_at-statement.result
+          c.fate-state.result c.record_at-statement.ensures c.fate-state.ensures c.if-eq.ensures;
     }

@@ -5,4 +5,4 @@ use Rattle.caption_box.proofs.show.Show.line.Goals as goal
 pub returns : goal.returns
 returns g c =
     let x = scene_of c.args.self.now (g.S.Store.numbers c.args.store.now) (g.S.Store.limit c.args.store.now) in
-    record { exact = c.ask-exactly.ensures; follows = line_follows x c.ask-exactly.result c.ask-exactly.ensures }
+    record { exact = c.ask_exactly.ensures; follows = line_follows x c.ask_exactly.result c.ask_exactly.ensures }

@@ -4,12 +4,12 @@ use Rattle.caption_box.proofs.show.Show.rewind.Goals as goal
 
 pub returns : goal.returns
 returns g c =
-    let e = c.rewind-exactly.ensures.exact in
+    let e = c.rewind_exactly.ensures.exact in
     let x = scene_of c.args.self.now (g.S.Store.numbers c.args.store.now) (g.S.Store.limit c.args.store.now) in
-    let y = scene_of c.rewind-exactly.new.self (g.S.Store.numbers c.rewind-exactly.new.store) (g.S.Store.limit c.rewind-exactly.new.store) in
+    let y = scene_of c.rewind_exactly.new.self (g.S.Store.numbers c.rewind_exactly.new.store) (g.S.Store.limit c.rewind_exactly.new.store) in
     record {
-      code = c.rewind-exactly.ensures.code;
+      code = c.rewind_exactly.ensures.code;
       exact = e;
-      follows = rewind_carries x y c.args.inputs.now c.rewind-exactly.result e;
-      aside = rewind_aside x y c.args.inputs.now c.rewind-exactly.result e;
+      follows = rewind_carries x y c.args.inputs.now c.rewind_exactly.result e;
+      aside = rewind_aside x y c.args.inputs.now c.rewind_exactly.result e;
     }

@@ -1,4 +1,4 @@
-use Rattle.std.proofs.Common.{refl, ◌∙◌, arith, length-set}
+use Rattle.std.proofs.Common.{refl, arith, length-set}
 use Rattle.filing.proofs.table.Table.clear_rest.Goals as goal
 use Rattle.filing.proofs.Clears.{sweep_more, sweep_none, sweep_all}
 

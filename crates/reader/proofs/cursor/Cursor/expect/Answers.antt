@@ -12,7 +12,7 @@ returns-then-eq c =
 pub returns-else-eq : goal.returns-else-eq
 returns-else-eq c =
     let r = c.in-Ok.ensures in
-    record { read = begins_other c.args.self.now.text.now c.args.self.now.pos c.require.new.self.pos c.in-Ok.found r.read (λ s. s ≡ meant c.args.wanted) c.out-of-order.result (λ e. let q : c.in-Ok.found.item ≡ c.args.wanted = same_lexeme c.in-Ok.found.item c.args.wanted e in let t : c.eq.result ≡ true = search rules in both_ways c.eq.result c.if-eq.false t) c.out-of-order.ensures; text = r.text }
+    record { read = begins_other c.args.self.now.text.now c.args.self.now.pos c.require.new.self.pos c.in-Ok.found r.read (λ s. s ≡ meant c.args.wanted) c.out_of_order.result (λ e. let q : c.in-Ok.found.item ≡ c.args.wanted = same_lexeme c.in-Ok.found.item c.args.wanted e in let t : c.eq.result ≡ true = search rules in both_ways c.eq.result c.if-eq.false t) c.out_of_order.ensures; text = r.text }
 
 pub returns-in-Err : goal.returns-in-Err
 returns-in-Err c =

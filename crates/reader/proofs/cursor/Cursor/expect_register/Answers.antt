@@ -9,10 +9,10 @@ returns-in-Err c =
     let r = c.in-Err.ensures in
     record { read = refuses_all c.args.self.now.text.now c.args.self.now.pos IsRegister c.in-Err.fault r.read; text = r.text }
 
-pub returns-in-default : goal.returns-in-default
-returns-in-default c =
+pub returns-in_default : goal.returns-in_default
+returns-in_default c =
     let r = c.in-Ok.ensures in
-    record { read = begins_other c.args.self.now.text.now c.args.self.now.pos c.require.new.self.pos c.in-Ok.found r.read IsRegister c.out-of-order.result (not_register c.in-Ok.found.item c.in-default.not-Register) c.out-of-order.ensures; text = r.text }
+    record { read = begins_other c.args.self.now.text.now c.args.self.now.pos c.require.new.self.pos c.in-Ok.found r.read IsRegister c.out_of_order.result (not_register c.in-Ok.found.item c.in_default.not-Register) c.out_of_order.ensures; text = r.text }
 
 pub returns-in-Register : goal.returns-in-Register
 returns-in-Register c =

@@ -5,31 +5,31 @@ use Rattle.reader.specs.Expecting.{Refuses, Passes}
 use Rattle.reader.proofs.Halting.{moved, no_loop_register, no_loop_do, behind_loop_register}
 use Rattle.reader.proofs.cursor.Cursor.loop_head.Goals as goal
 
-pub returns-in-err-source : goal.returns-in-err-source
-returns-in-err-source c =
-    let p = err_from_is_err_and c.from-residual.result c.from-residual.ensures.1 in
-    let a = c.in-err-source.ensures in
-    rw (p.1, p.2) (record { read = no_loop_register c.args.self.now.text.now c.args.self.now.pos c.in-err-source.field-0.0 a.read; text = a.text })
+pub returns-in_err-source : goal.returns-in_err-source
+returns-in_err-source c =
+    let p = err_from_is_err_and c.from_residual.result c.from_residual.ensures.1 in
+    let a = c.in_err-source.ensures in
+    rw (p.1, p.2) (record { read = no_loop_register c.args.self.now.text.now c.args.self.now.pos c.in_err-source.field-0.0 a.read; text = a.text })
 
-pub returns-in-err-expect : goal.returns-in-err-expect
-returns-in-err-expect c =
-    let p = err_from_is_err_and c.from-residual-in-err-expect.result c.from-residual-in-err-expect.ensures.1 in
+pub returns-in_err-expect : goal.returns-in_err-expect
+returns-in_err-expect c =
+    let p = err_from_is_err_and c.from_residual-in_err-expect.result c.from_residual-in_err-expect.ensures.1 in
     let text = c.args.self.now.text.now in
-    let e = c.in-err-expect.field-0.0 in
-    let a = c.in-ok-source.ensures in
-    let b = c.in-err-expect.ensures in
-    let at1 = c.expect-register.new.self.pos in
+    let e = c.in_err-expect.field-0.0 in
+    let a = c.in_ok-source.ensures in
+    let b = c.in_err-expect.ensures in
+    let at1 = c.expect_register.new.self.pos in
     rw (p.1, p.2) (record {
-      read = behind_loop_register text c.args.self.now.pos at1 e c.in-ok-source.source a.read (no_loop_do text at1 e (moved (λ t. Refuses (λ s. s ≡ DO) t at1 e) a.text b.read));
+      read = behind_loop_register text c.args.self.now.pos at1 e c.in_ok-source.source a.read (no_loop_do text at1 e (moved (λ t. Refuses (λ s. s ≡ DO) t at1 e) a.text b.read));
       text = ◌∙◌ {a = c.expect.new.self.text.now} b.text a.text;
     })
 
 pub returns : goal.returns
 returns c =
     let text = c.args.self.now.text.now in
-    let a = c.in-ok-source.ensures in
-    let b = c.in-ok-expect.ensures in
-    let at1 = c.expect-register.new.self.pos in
+    let a = c.in_ok-source.ensures in
+    let b = c.in_ok-expect.ensures in
+    let at1 = c.expect_register.new.self.pos in
     let at2 = c.expect.new.self.pos in
     let b-read = moved (λ t. Passes t at1 at2 DO) a.text b.read.0 in
     record {

@@ -5,59 +5,59 @@ use Rattle.reader.specs.Expecting.{Refuses, Passes}
 use Rattle.reader.proofs.Halting.{moved, no_while_register, no_unequal, no_zero, no_while_do, behind_while_register, behind_unequal, behind-zero}
 use Rattle.reader.proofs.cursor.Cursor.while_head.Goals as goal
 
-pub returns-in-err-source : goal.returns-in-err-source
-returns-in-err-source c =
-    let p = err_from_is_err_and c.from-residual.result c.from-residual.ensures.1 in
-    let a = c.in-err-source.ensures in
-    rw (p.1, p.2) (record { read = no_while_register c.args.self.now.text.now c.args.self.now.pos c.in-err-source.field-0.0 a.read; text = a.text })
+pub returns-in_err-source : goal.returns-in_err-source
+returns-in_err-source c =
+    let p = err_from_is_err_and c.from_residual.result c.from_residual.ensures.1 in
+    let a = c.in_err-source.ensures in
+    rw (p.1, p.2) (record { read = no_while_register c.args.self.now.text.now c.args.self.now.pos c.in_err-source.field-0.0 a.read; text = a.text })
 
-pub returns-in-err-expect : goal.returns-in-err-expect
-returns-in-err-expect c =
-    let p = err_from_is_err_and c.from-residual-in-err-expect.result c.from-residual-in-err-expect.ensures.1 in
+pub returns-in_err-expect : goal.returns-in_err-expect
+returns-in_err-expect c =
+    let p = err_from_is_err_and c.from_residual-in_err-expect.result c.from_residual-in_err-expect.ensures.1 in
     let text = c.args.self.now.text.now in
-    let e = c.in-err-expect.field-0.0 in
-    let a = c.in-ok-source.ensures in
-    let b = c.in-err-expect.ensures in
-    let at1 = c.expect-register.new.self.pos in
+    let e = c.in_err-expect.field-0.0 in
+    let a = c.in_ok-source.ensures in
+    let b = c.in_err-expect.ensures in
+    let at1 = c.expect_register.new.self.pos in
     rw (p.1, p.2) (record {
-      read = behind_while_register text c.args.self.now.pos at1 e c.in-ok-source.source a.read (no_unequal text at1 e (moved (λ t. Refuses (λ s. s ≡ unequal) t at1 e) a.text b.read));
+      read = behind_while_register text c.args.self.now.pos at1 e c.in_ok-source.source a.read (no_unequal text at1 e (moved (λ t. Refuses (λ s. s ≡ unequal) t at1 e) a.text b.read));
       text = ◌∙◌ {a = c.expect.new.self.text.now} b.text a.text;
     })
 
-pub returns-in-err-expect-2 : goal.returns-in-err-expect-2
-returns-in-err-expect-2 c =
-    let p = err_from_is_err_and c.from-residual-in-err-expect-2.result c.from-residual-in-err-expect-2.ensures.1 in
+pub returns-in_err-expect-2 : goal.returns-in_err-expect-2
+returns-in_err-expect-2 c =
+    let p = err_from_is_err_and c.from_residual-in_err-expect-2.result c.from_residual-in_err-expect-2.ensures.1 in
     let text = c.args.self.now.text.now in
-    let e = c.in-err-expect-2.field-0.0 in
-    let a = c.in-ok-source.ensures in
-    let b = c.in-ok-expect.ensures in
-    let d = c.in-err-expect-2.ensures in
-    let at1 = c.expect-register.new.self.pos in
+    let e = c.in_err-expect-2.field-0.0 in
+    let a = c.in_ok-source.ensures in
+    let b = c.in_ok-expect.ensures in
+    let d = c.in_err-expect-2.ensures in
+    let at1 = c.expect_register.new.self.pos in
     let at2 = c.expect.new.self.pos in
     let b-text : c.expect.new.self.text.now ≡ text = ◌∙◌ {a = c.expect.new.self.text.now} b.text a.text in
     rw (p.1, p.2) (record {
-      read = behind_while_register text c.args.self.now.pos at1 e c.in-ok-source.source a.read
+      read = behind_while_register text c.args.self.now.pos at1 e c.in_ok-source.source a.read
           (behind_unequal text at1 at2 e (moved (λ t. Passes t at1 at2 unequal) a.text b.read.0)
           (no_zero text at2 e (moved (λ t. Refuses (λ s. s ≡ number 0) t at2 e) b-text d.read)));
       text = ◌∙◌ {a = c.expect-2.new.self.text.now} d.text b-text;
     })
 
-pub returns-in-err-expect-3 : goal.returns-in-err-expect-3
-returns-in-err-expect-3 c =
-    let p = err_from_is_err_and c.from-residual-in-err-expect-3.result c.from-residual-in-err-expect-3.ensures.1 in
+pub returns-in_err-expect-3 : goal.returns-in_err-expect-3
+returns-in_err-expect-3 c =
+    let p = err_from_is_err_and c.from_residual-in_err-expect-3.result c.from_residual-in_err-expect-3.ensures.1 in
     let text = c.args.self.now.text.now in
-    let e = c.in-err-expect-3.field-0.0 in
-    let a = c.in-ok-source.ensures in
-    let b = c.in-ok-expect.ensures in
-    let d = c.in-ok-expect-2.ensures in
-    let f = c.in-err-expect-3.ensures in
-    let at1 = c.expect-register.new.self.pos in
+    let e = c.in_err-expect-3.field-0.0 in
+    let a = c.in_ok-source.ensures in
+    let b = c.in_ok-expect.ensures in
+    let d = c.in_ok-expect-2.ensures in
+    let f = c.in_err-expect-3.ensures in
+    let at1 = c.expect_register.new.self.pos in
     let at2 = c.expect.new.self.pos in
     let at3 = c.expect-2.new.self.pos in
     let b-text : c.expect.new.self.text.now ≡ text = ◌∙◌ {a = c.expect.new.self.text.now} b.text a.text in
     let d-text : c.expect-2.new.self.text.now ≡ text = ◌∙◌ {a = c.expect-2.new.self.text.now} d.text b-text in
     rw (p.1, p.2) (record {
-      read = behind_while_register text c.args.self.now.pos at1 e c.in-ok-source.source a.read
+      read = behind_while_register text c.args.self.now.pos at1 e c.in_ok-source.source a.read
           (behind_unequal text at1 at2 e (moved (λ t. Passes t at1 at2 unequal) a.text b.read.0)
           (behind-zero text at2 at3 e (moved (λ t. Passes t at2 at3 (number 0)) b-text d.read.0)
           (no_while_do text at3 e (moved (λ t. Refuses (λ s. s ≡ DO) t at3 e) d-text f.read))));
@@ -67,11 +67,11 @@ returns-in-err-expect-3 c =
 pub returns : goal.returns
 returns c =
     let text = c.args.self.now.text.now in
-    let a = c.in-ok-source.ensures in
-    let b = c.in-ok-expect.ensures in
-    let d = c.in-ok-expect-2.ensures in
-    let f = c.in-ok-expect-3.ensures in
-    let at1 = c.expect-register.new.self.pos in
+    let a = c.in_ok-source.ensures in
+    let b = c.in_ok-expect.ensures in
+    let d = c.in_ok-expect-2.ensures in
+    let f = c.in_ok-expect-3.ensures in
+    let at1 = c.expect_register.new.self.pos in
     let at2 = c.expect.new.self.pos in
     let at3 = c.expect-2.new.self.pos in
     let at4 = c.expect-3.new.self.pos in

@@ -1,4 +1,4 @@
-use Rattle.std.proofs.Common.{◌≡◌, ℕ, suc, ◌+◌, Some, None, sym, refl, subst, add-one, arith}
+use Rattle.std.proofs.Common.{ℕ, ◌+◌, Some, None, sym, refl, subst, add-one, arith}
 use Rattle.reader.specs.declared.types.Kind.{Kind}
 use Rattle.reader.specs.declared.types.Kind.TheVariants.{Loop as loop}
 use Rattle.reader.specs.declared.types.Refusal.TheVariants.{TooMany}
@@ -36,12 +36,12 @@ returns-else-self-ge-LOOPS c =
       pos = refl;
     }
 
-pub returns-in-default : goal.returns-in-default
-returns-in-default c =
+pub returns-in_default : goal.returns-in_default
+returns-in_default c =
     let n = c.args.self.now.counts.statements in
     let m = c.args.self.now.counts.loops in
     record {
-      admitted = subst (λ (k : Kind). Admitted c.args.level n m k None m) (sym (while_else c.args.kind c.requires.block c.in-default.not-Loop)) (admits_while (omega arith) (omega arith));
+      admitted = subst (λ (k : Kind). Admitted c.args.level n m k None m) (sym (while_else c.args.kind c.requires.block c.in_default.not-Loop)) (admits_while (omega arith) (omega arith));
       begun = refl;
       memory = refl;
       kept = record { text = refl; room = refl; loan = refl };

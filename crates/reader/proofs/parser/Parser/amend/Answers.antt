@@ -4,7 +4,7 @@ use Rattle.reader.proofs.parser.Parser.amend.Goals as goal
 pub returns : goal.returns
 returns c =
     let self = c.args.self.now in
-    let m = c.amend-record.ensures in
+    let m = c.amend_record.ensures in
     record {
       begun = (refl, refl);
       amended = m;

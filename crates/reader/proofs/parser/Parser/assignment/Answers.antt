@@ -1,4 +1,4 @@
-use Rattle.std.proofs.Common.{◌≡◌, [], ◌∷◌, length, refl, ap, ◌∙◌, add-one, arith}
+use Rattle.std.proofs.Common.{length, refl, ◌∙◌, add-one, arith}
 use Rattle.std.proofs.lemmas.Result.{err_from_is_err_and}
 use Rattle.reader.proofs.Parsing.{assignment_read}
 use Rattle.reader.proofs.Refusing.{assignment_many, assignment_bad}
@@ -12,20 +12,20 @@ returns-then-self-ge-STATEMENTS c =
       kept = record { text = refl; room = refl; loan = refl };
     }
 
-pub returns-in-err-item : goal.returns-in-err-item
-returns-in-err-item c =
+pub returns-in_err-item : goal.returns-in_err-item
+returns-in_err-item c =
     let self = c.args.self.now in
-    let p = err_from_is_err_and c.from-residual.result c.from-residual.ensures.1 in
-    let a = c.in-err-item.ensures in
+    let p = err_from_is_err_and c.from_residual.result c.from_residual.ensures.1 in
+    let a = c.in_err-item.ensures in
     rw (p.1, p.2) (record {
-      read = λ level. assignment_bad self.cursor.text.now self.cursor.pos level self.counts.statements self.counts.loops c.args.place c.args.target c.requires c.in-err-item.field-0.0 (omega arith) a.read;
+      read = λ level. assignment_bad self.cursor.text.now self.cursor.pos level self.counts.statements self.counts.loops c.args.place c.args.target c.requires c.in_err-item.field-0.0 (omega arith) a.read;
       kept = record { text = a.text; room = refl; loan = refl };
     })
 
 pub returns : goal.returns
 returns c =
     let self = c.args.self.now in
-    let a = c.in-ok-item.ensures in
+    let a = c.in_ok-item.ensures in
     let f = c.file.ensures in
     let z = c.file.new.self in
     record {

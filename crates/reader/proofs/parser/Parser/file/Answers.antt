@@ -5,7 +5,7 @@ use Rattle.reader.proofs.parser.Parser.file.Goals as goal
 pub returns : goal.returns
 returns c =
     let self = c.args.self.now in
-    let m = c.file-record.ensures in
+    let m = c.file_record.ensures in
     record {
       index = refl;
       begun = add-one self.counts.statements;

@@ -4,19 +4,19 @@ use Rattle.reader.proofs.parser.Parser.head.Goals as goal
 
 pub returns-in-Loop : goal.returns-in-Loop
 returns-in-Loop c =
-    let e = c.loop-head.ensures in
+    let e = c.loop_head.ensures in
     record {
-      read = λ s x o. loop_head c.args.kind c.in-Loop.is c.args.self.now.cursor.text.now c.args.self.now.cursor.pos c.loop-head.result c.loop-head.last.self.pos s x o e.read;
+      read = λ s x o. loop_head c.args.kind c.in-Loop.is c.args.self.now.cursor.text.now c.args.self.now.cursor.pos c.loop_head.result c.loop_head.new.self.pos s x o e.read;
       begun = (refl, refl);
       memory = refl;
       kept = record { text = e.text; room = refl; loan = refl };
     }
 
-pub returns-in-default : goal.returns-in-default
-returns-in-default c =
-    let e = c.while-head.ensures in
+pub returns-in_default : goal.returns-in_default
+returns-in_default c =
+    let e = c.while_head.ensures in
     record {
-      read = λ s x o. while_head c.args.kind (while_else c.args.kind c.requires c.in-default.not-Loop) c.args.self.now.cursor.text.now c.args.self.now.cursor.pos c.while-head.result c.while-head.new.self.pos s x o e.read;
+      read = λ s x o. while_head c.args.kind (while_else c.args.kind c.requires c.in_default.not-Loop) c.args.self.now.cursor.text.now c.args.self.now.cursor.pos c.while_head.result c.while_head.new.self.pos s x o e.read;
       begun = (refl, refl);
       memory = refl;
       kept = record { text = e.text; room = refl; loan = refl };

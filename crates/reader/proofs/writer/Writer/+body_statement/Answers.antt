@@ -63,7 +63,7 @@ body-returns t c =
     let rs = c.args.records.now in
     let f = first_of c.args.records.now c.args.from c.args.to c.requires.order c.requires.sound in
     let le : c.args.to ≤ end_of c.args.records.now c.loop-next.index =
-    sibling-none rs c.loop-next.index c.args.to (omega (arith, c.requires.within, c.loop-next.invariant.1)) c.in-default.ensures.answer in
+    sibling-none rs c.loop-next.index c.args.to (omega (arith, c.requires.within, c.loop-next.invariant.1)) c.in_default.ensures.answer in
     record {
       put =
           sym (put_last rs (end_of rs c.loop-next.index) c.args.to (on_page c.loop-next.self) le) ∙ c.loop-next.invariant.5

@@ -7,7 +7,7 @@ use Rattle.reader.proofs.writer.Writer.number.Goals as goal
 pub returns : goal.returns
 returns c =
     let g = on_page c.args.self.now in
-    let d = digits_slice c.args.n c.write-digits-start.result c.write-digits-start.new.digits c.write-digits-start.array_long c.write-digits-start.ensures.digits in
+    let d = digits_slice c.args.n c.write_digits-start.result c.write_digits-start.new.digits c.write_digits-start.array_long c.write_digits-start.ensures.digits in
     let e : on_page c.bytes.new.self ≡ put_bytes (decimal c.args.n) (on_page c.args.self.now) =
     c.bytes.ensures ∙ ap (λ (l : List ℕ). put_bytes l (on_page c.args.self.now)) d in
     record {

@@ -5,8 +5,8 @@ use Rattle.reader.proofs.writer.putting.write_digits.Goals as goal
 pub loop-rest-init : goal.loop-rest-init
 loop-rest-init c = digits-none c.args.n c.args.digits.now c.told-digits
 
-pub overflow-sub-start : goal.overflow-sub-start
-overflow-sub-start c = digits-room c.args.n c.loop-rest.rest c.loop-rest.start c.loop-rest.digits (omega (arith, c.ranges.n.fits)) c.loop-rest.invariant
+pub overflow_sub-start : goal.overflow_sub-start
+overflow_sub-start c = digits-room c.args.n c.loop-rest.rest c.loop-rest.start c.loop-rest.digits (omega (arith, c.ranges.n.fits)) c.loop-rest.invariant
 
 pub returns-then-rest-eq0 : goal.returns-then-rest-eq0
 returns-then-rest-eq0 c =

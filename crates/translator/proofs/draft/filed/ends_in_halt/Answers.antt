@@ -4,4 +4,4 @@ use Rattle.translator.proofs.draft.filed.ends_in_halt.Goals as goal
 
 pub returns-in-Some : goal.returns-in-Some
 returns-in-Some c =
-    ends c.args.table.now c.filed-len-len.result c.in-Some.last c.is-halt.result c.filed-len-len.ensures (omega arith) c.in-Some.ensures c.is-halt.ensures
+    ends c.args.table.now c.filed_len-len.result c.in-Some.last c.is_halt.result c.filed_len-len.ensures (omega arith) c.in-Some.ensures c.is_halt.ensures

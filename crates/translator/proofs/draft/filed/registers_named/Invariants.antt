@@ -1,4 +1,4 @@
-use Rattle.std.proofs.Common.{◌≡◌, ℕ, ◌-◌, ◌≤◌, max, length, drop}
+use Rattle.std.proofs.Common.{◌≡◌, ◌-◌, ◌≤◌, max, length, drop}
 use Rattle.filing.specs.Tables.{memory}
 use Rattle.translator.specs.Drafts.{filed}
 use Rattle.translator.specs.Width.{width}

@@ -1,6 +1,6 @@
 use Rattle.std.proofs.Common.{◌≡◌, set, rules}
 use Rattle.reader.proofs.Filing.{file_memory}
-use Rattle.reader.proofs.parser.filing.file_record.Goals as goal
+use Rattle.reader.proofs.parser.record_filing.file_record.Goals as goal
 
 pub returns : goal.returns
 returns c =

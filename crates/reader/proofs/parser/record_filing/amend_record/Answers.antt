@@ -1,6 +1,6 @@
 use Rattle.std.proofs.Common.{◌≡◌, set, rules}
 use Rattle.reader.proofs.Filing.{amend_memory}
-use Rattle.reader.proofs.parser.filing.amend_record.Goals as goal
+use Rattle.reader.proofs.parser.record_filing.amend_record.Goals as goal
 
 pub returns : goal.returns
 returns c =
