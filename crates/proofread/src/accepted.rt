@@ -1,5 +1,6 @@
 // What is said of a sheet that is in order.
 use crate::shown::Shown;
+use anyhow::anyhow;
 use reader::types::{Placed, Statement, ZERO_RECORD};
 use reader::{print, read};
 use std::io;
@@ -19,7 +20,7 @@ pub fn write_accepted(
             write_printed(out, &page[0..length], sheet)?;
             Ok(())
         }
-        Err(refusal) => Err(refusal.words().into()),
+        Err(refusal) => Err(anyhow!(refusal.words())),
     }
 }
 

@@ -1,5 +1,6 @@
 // What is found in the text of a sheet.
 use crate::escape::Escaped;
+use anyhow::anyhow;
 use reader::types::{Placed, Statement, ZERO_RECORD};
 use reader::{print, read};
 use shown::{write_code, write_refused};
@@ -33,6 +34,6 @@ fn write_sheet(out: &mut impl Write, sheet: &[Placed<Statement>]) -> anyhow::Res
             writeln!(out, "printed {printed}")?;
             Ok(())
         }
-        Err(refusal) => Err(refusal.words().into()),
+        Err(refusal) => Err(anyhow!(refusal.words())),
     }
 }

@@ -46,8 +46,8 @@ impl<'a, S: Store> Window<'a, S> {
 
     // Where number i of the window stands below.
     fn place(&self, i: usize) -> Option<usize>
-        ensures sound { Sound (seen (numbers self.now.below.now) self.now.base self.now.len) (limit self.now.below.now) }
-        ensures place { MatchOption result (length (seen (numbers self.now.below.now) self.now.base self.now.len) ≤ i) (λ at. Stands (numbers self.now.below.now) (limit self.now.below.now) self.now.base self.now.len i at) }
+        ensures sound { Sound (seen (S.Store.numbers self.now.below.now) self.now.base self.now.len) (S.Store.limit self.now.below.now) }
+        ensures place { MatchOption result (length (seen (S.Store.numbers self.now.below.now) self.now.base self.now.len) ≤ i) (λ at. Stands (S.Store.numbers self.now.below.now) (S.Store.limit self.now.below.now) self.now.base self.now.len i at) }
     {
         let n = self.below.count();
         if i < shown(n, self.base, self.len) {

@@ -1,3 +1,5 @@
+ghost use Rattle.std.specs.Prelude.{suc, ◌^◌, ◌≤◌};
+
 mod filed;
 mod laying;
 mod sealing;
@@ -16,10 +18,10 @@ pub struct OpenJump {
     at: usize,
 }
 
-// An open jump is never let go: nobody can show what that asks.
+// An open jump is never let go: only one at the largest index could be, and `test` gives none such.
 impl Drop for OpenJump {
     fn drop(self)
-        requires { ⊥ }
+        requires { 2 ^ 64 ≤ suc self.at }
     {
         let OpenJump { at: _ } = self;
     }

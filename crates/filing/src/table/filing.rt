@@ -1,4 +1,4 @@
-ghost use Rattle.std.specs.Prelude.{◌≡◌, ℕ, suc, ◌+◌, ◌-◌, ◌<◌, ◌≤◌, min, List, ◌++◌, length, take, replicate};
+ghost use Rattle.std.specs.Prelude.{◌≡◌, ℕ, suc, ◌+◌, ◌-◌, ◌^◌, ◌<◌, ◌≤◌, min, IfSome, List, ◌++◌, length, take, replicate};
 ghost use Rattle.filing.specs.Tables.{memory, count, lent, Filed, Found, Amended};
 
 use super::Table;
@@ -26,6 +26,7 @@ impl<'a, T: Copy> Table<'a, T> {
     // Files `x` behind the others and answers its index; None where the memory is full.
     pub fn file(&mut self, x: T) -> Option<usize>
         ensures filed { Filed x self.old result self.new }
+        ensures within { IfSome result (λ i. suc i < 2 ^ 64) }
         ensures lent { lent self.new ≡ lent self.old }
     {
         let index = self.filed;

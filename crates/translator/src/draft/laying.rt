@@ -1,4 +1,4 @@
-ghost use Rattle.std.specs.Prelude.{◌≡◌, ℕ, suc, ◌^◌, ◌<◌, MatchResult, slice_index_or};
+ghost use Rattle.std.specs.Prelude.{◌≡◌, ℕ, suc, ◌^◌, ◌<◌, IfOk, MatchResult, slice_index_or};
 ghost use Rattle.reader.specs.declared.types.Refusal.TheVariants.{CodeFull, NotOpen};
 ghost use Rattle.translator.specs.declared.types.Operation.TheVariants.{If};
 ghost use Rattle.translator.specs.JumpCode.{instruction, halt};
@@ -63,6 +63,7 @@ impl<'a> Draft<'a> {
         ensures laid { MatchResult result
             (λ j. (j.at ≡ laid self.old) × Appended (instruction role (If source 0)) self.old self.new)
             (λ e. (e ≡ CodeFull) × Full self.old × Unchanged self.old self.new) }
+        ensures held { IfOk result (λ j. suc j.at < 2 ^ 64) }
         ensures lent { draft_lent self.new ≡ draft_lent self.old }
     {
         match self.table.file(Instruction {

@@ -10,10 +10,10 @@ offset_bounds-self-i c = omega (arith, flats-length c.args.self.now.cells.now)
 pub bounds-self-i : goal.bounds-self-i
 bounds-self-i c = omega (arith, flats-length c.args.self.now.cells.now)
 
-pub invariant-of-self : goal.invariant-of-self
-invariant-of-self c =
+pub invariant_of-self : goal.invariant_of-self
+invariant_of-self c =
     let put = flats-set c.args.self.now.cells.now c.args.i c.args.v c.requires in
-    (subst (λ ns. Sound ns 4294967295) (sym put) (sound_set _ _ _ _ c.args.self.now.fits (omega arith)), tt)
+    record { fits = subst (λ ns. Sound ns 4294967295) (sym put) (sound_set _ _ _ _ c.args.self.now.fits (omega arith)) }
 
 pub returns : goal.returns
 returns c = record {
