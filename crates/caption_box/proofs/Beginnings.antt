@@ -1,15 +1,13 @@
 -- The beginning of a rehearsal: what start and rewind make of a seating.
-use Rattle.std.proofs.Common.{◌≡◌, ℕ, Bool, true, false, cond, ltb, List, ◌++◌, length, drop, Ok, Err, Result, sym, refl, ap, ◌∙◌, subst, inr, arith}
+use Rattle.std.proofs.Common.{◌≡◌, ℕ, Bool, true, false, cond, ltb, List, length, Ok, Err, Result, sym, refl, ap, ◌∙◌, subst, inr, arith}
 use Rattle.reader.specs.declared.types.Refusal.{Refusal}
 use Rattle.reader.specs.declared.types.Refusal.TheVariants.{SmallStore, ManyInputs, OverTop}
 use Rattle.reader.specs.Sheet.{Sheet}
 use Rattle.reader.specs.WrittenRun.{Counts, running, no_counts}
-use Rattle.reader.specs.Checks.{IsSheet, span}
+use Rattle.reader.specs.Checks.{IsSheet}
 use Rattle.reader.proofs.Spans.{sheet_span}
-use Rattle.caption_box.specs.declared.rehearsal.Position.{Position}
-use Rattle.caption_box.specs.declared.rehearsal.WrittenTallies.{WrittenTallies}
 use Rattle.caption_box.specs.declared.rehearsal.Rehearsal.{Rehearsal}
-use Rattle.caption_box.specs.Seats.{all_below, entered}
+use Rattle.caption_box.specs.Seats.{all_below}
 use Rattle.caption_box.specs.Calls.{seats, seated}
 use Rattle.caption_box.specs.Rests.{Recs, position_of, rest_in, rest_of, Stands}
 use Rattle.caption_box.specs.WrittenSteps.{Counted}

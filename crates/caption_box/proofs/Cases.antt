@@ -1,5 +1,5 @@
 -- What a call comes to: a refusal, which changes nothing, or what it does.
-use Rattle.std.proofs.Common.{◌≡◌, ℕ, ◌+◌, ◌<◌, ◌≤◌, Bool, true, false, cond, T, ltb, leb, List, length, set, Ok, Err, Result, sym, refl, ◌∙◌, subst, ⊎_elim, arith, leb→le}
+use Rattle.std.proofs.Common.{◌≡◌, ℕ, ◌+◌, ◌<◌, ◌≤◌, Bool, true, false, cond, T, ltb, leb, List, length, set, Ok, Err, sym, refl, ◌∙◌, subst, ⊎_elim, arith, leb→le}
 use Rattle.std.proofs.lemmas.Bool.{cases_lt, lt-ltb}
 use Rattle.reader.specs.declared.types.Refusal.{Refusal}
 use Rattle.reader.specs.declared.types.Refusal.TheVariants.{NoRegister, SmallStore, ManyInputs, OverTop, LongTick, LongShow}

@@ -1,12 +1,12 @@
 -- What the loop of a tick keeps, and what it comes to.
-use Rattle.std.proofs.Common.{◌≡◌, ℕ, zero, suc, ◌+◌, ◌<◌, ◌≤◌, length, sym, refl, ap, ◌∙◌, subst, add-zero, arith}
+use Rattle.std.proofs.Common.{◌≡◌, ℕ, zero, suc, ◌+◌, ◌<◌, ◌≤◌, length, sym, refl, ap, ◌∙◌, add-zero, arith}
 use Rattle.reader.specs.Steps.{Next, went, waits, ended, unfit, go_on, count_on, many, many_done}
-use Rattle.translator.specs.JumpCode.{Box, box_steps, box_steps_done}
+use Rattle.translator.specs.JumpCode.{Box}
 use Rattle.caption_box.specs.declared.types.State.{State}
-use Rattle.caption_box.specs.declared.types.State.TheVariants.{Ended, Unfit, Over, Time}
+use Rattle.caption_box.specs.declared.types.State.TheVariants.{Time}
 use Rattle.caption_box.specs.Calls.{Setting, step, state_of, onward, tick_box, tick_steps, tick_state, largest_tally}
 use Rattle.caption_box.proofs.ManySteps.{went_on, stayed, Ran, ran_none, ran_more, came_stopped, came_all}
-use Rattle.caption_box.proofs.Steps.{Grows, step_grows, grows_largest, grows_even}
+use Rattle.caption_box.proofs.Steps.{step_grows, grows_largest, grows_even}
 
 -- after n steps of a tick the show, which began at s₀, stands at s
 pub record Going (g₀ : Setting) (s₀ : Box) (n : ℕ) (g : Setting) (s : Box) : Type 0 where

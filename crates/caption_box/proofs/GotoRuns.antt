@@ -1,12 +1,12 @@
 -- A tick is a run by the published GOTO rules.
-use Rattle.std.proofs.Common.{◌≡◌, ℕ, zero, suc, ◌<◌, ◌≤◌, List, sym, refl, ap, ◌∙◌, subst, arith}
+use Rattle.std.proofs.Common.{◌≡◌, ℕ, zero, suc, List, sym, refl, ap, ◌∙◌, arith}
 use Rattle.reader.specs.Steps.{Next, went, waits, ended, unfit, go_on, count_on, many, many_done}
 use Rattle.translator.specs.JumpCode.{AllFit, Box}
 use Rattle.translator.specs.GotoRules.{GotoStep}
 use Rattle.translator.proofs.GotoRules.{box_step_is_published}
 use Rattle.caption_box.specs.declared.types.State.TheVariants.{Time}
 use Rattle.caption_box.specs.Calls.{Setting, step, state_of, ticked, tick_box, tick_steps, tick_state}
-use Rattle.caption_box.specs.GotoRuns.{GotoRun, rests, goes, GotoTick}
+use Rattle.caption_box.specs.GotoRuns.{rests, goes, GotoTick}
 
 -- a step that is not in time leaves no published step
 none_left : (g : Setting) (s : Box) → (state_of (step g s) ≡ Time → ⊥) → AllFit g.need g.code → (ρ : List ℕ) (l : ℕ)

@@ -3,7 +3,7 @@ use Rattle.std.proofs.Common.{◌≡◌, ℕ, ◌+◌, ◌-◌, ◌*◌, ◌<◌
 use Rattle.reader.specs.declared.types.Refusal.{Refusal}
 use Rattle.reader.specs.declared.types.Refusal.TheVariants.{SmallStore, ManyInputs, OverTop}
 use Rattle.reader.specs.Sheet.{Sheet, depth}
-use Rattle.reader.specs.WrittenRun.{WrittenRun, running, no_counts, written_steps}
+use Rattle.reader.specs.WrittenRun.{running, no_counts, written_steps}
 use Rattle.translator.specs.JumpCode.{Box, box_start}
 use Rattle.translator.specs.Counters.{sheet_width}
 use Rattle.translator.specs.Translation.{compiled}
@@ -12,7 +12,7 @@ use Rattle.translator.specs.Following.{Playable, Low, over}
 use Rattle.translator.proofs.Following.{start_stands, correction_stands, beyond_width, standing_agrees, steps_stand}
 use Rattle.caption_box.specs.declared.types.Ticked.{Ticked}
 use Rattle.caption_box.specs.Seats.{all_below, entered}
-use Rattle.caption_box.specs.Calls.{Setting, setting, Scene, scene, Outcome, outcome, ticked, tick_box, tick_steps, tick_state, largest_tally, ticks, seats, beginning, rewinds, corrects}
+use Rattle.caption_box.specs.Calls.{Setting, setting, Scene, scene, Outcome, outcome, tick_box, tick_steps, largest_tally, ticks, seats, beginning, rewinds, corrects}
 use Rattle.caption_box.specs.History.{History, Account, account_start, account_tick, account_correct, account, Plays, SameBelow, Past, on_start, on_tick, on_correct, on_rewind, on_ask, on_refusal, between}
 use Rattle.caption_box.specs.Claim.{Agrees, Follows}
 use Rattle.caption_box.proofs.Low.{low_start, start_length, start_front}

@@ -1,5 +1,5 @@
 -- What is left as a statement is done, a body ends and a level opens.
-use Rattle.std.proofs.Common.{◌≡◌, ℕ, zero, suc, ◌+◌, ◌-◌, ◌<◌, ◌≤◌, max, ◌≢◌, ◌⊎◌, List, length, get_or, set, Option, sym, refl, ap, ◌∙◌, subst, inl, inr, ⊎_elim, add-one, arith, length-set}
+use Rattle.std.proofs.Common.{◌≡◌, ℕ, zero, suc, ◌+◌, ◌-◌, ◌<◌, ◌≤◌, ◌≢◌, List, length, set, Option, sym, refl, ap, ◌∙◌, subst, inl, inr, ⊎_elim, add-one, arith, length-set}
 use Rattle.std.specs.declared.option.Option.TheVariants as option
 use Rattle.std.proofs.lemmas.List.{get_or-set_same, get_or-set_other}
 use Rattle.std.proofs.lemmas.Bool.{cases_lt, lt-ltb, le-ltb}
@@ -11,7 +11,7 @@ use Rattle.reader.specs.Checks.{at, span, sheet_of, IsSheet, sibling}
 use Rattle.reader.proofs.Spans.{span_none, span-at, sheet_few, sheet_some, sheet_span}
 use Rattle.caption_box.specs.declared.rehearsal.Level.{Level}
 use Rattle.caption_box.specs.declared.rehearsal.Position.{Position}
-use Rattle.caption_box.specs.Rests.{Recs, level_of, level_at, position_of, body_end, again, rest_in, rest_of, Bodied, Inside, Stands, Held, opened, rest_behind, rest_after, Reaches}
+use Rattle.caption_box.specs.Rests.{Recs, level_of, level_at, position_of, body_end, again, rest_in, rest_of, Bodied, Inside, Stands, Held, opened, rest_after}
 use Rattle.caption_box.proofs.Fines.{Real, Fine, Fines, fines, whole_depth}
 
 then_sheet : (k : Kind) (s : Statement) (b p q : Sheet) → Real k → then (sheet_of k s b p) q ≡ sheet_of k s b (then p q)

@@ -1,5 +1,5 @@
 -- Lists in which no number is above the top, and the registers after a rewind.
-use Rattle.std.proofs.Common.{◌≡◌, ℕ, zero, suc, ◌≤◌, Bool, true, false, ◌&&◌, T, leb, List, [], ◌∷◌, ◌++◌, length, get_or, take, drop, replicate, refl, ap, ◌∙◌, zero-le, le_of_suc-le-suc, arith, leb→le, length-append, length-take-le, take-take}
+use Rattle.std.proofs.Common.{◌≡◌, ℕ, zero, suc, ◌≤◌, Bool, true, false, ◌&&◌, T, leb, List, [], ◌∷◌, ◌++◌, length, take, drop, replicate, refl, ap, ◌∙◌, zero-le, le_of_suc-le-suc, arith, leb→le, length-append, length-take-le, take-take}
 use lib.ListN.{length-replicate}
 use lib.Seq.{take-append-le}
 use Rattle.translator.specs.Following.{Low}

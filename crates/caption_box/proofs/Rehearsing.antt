@@ -1,12 +1,11 @@
 -- What the loop of a rehearsal's tick keeps, and what it comes to.
-use Rattle.std.proofs.Common.{◌≡◌, ℕ, suc, ◌+◌, ◌<◌, ◌≤◌, List, length, sym, refl, ap, ◌∙◌, subst, arith}
-use Rattle.reader.specs.Steps.{Next, went}
+use Rattle.std.proofs.Common.{◌≡◌, ℕ, suc, ◌+◌, ◌<◌, ◌≤◌, List, length, sym, refl, ap, ◌∙◌, arith}
+use Rattle.reader.specs.Steps.{went}
 use Rattle.reader.specs.WrittenRun.{WrittenRun, written_step}
 use Rattle.caption_box.specs.declared.types.State.{State}
 use Rattle.caption_box.specs.declared.types.State.TheVariants.{Time}
-use Rattle.caption_box.specs.declared.types.Ticked.{Ticked}
 use Rattle.caption_box.specs.declared.rehearsal.Rehearsal.{Rehearsal}
-use Rattle.caption_box.specs.Calls.{state_of, onward}
+use Rattle.caption_box.specs.Calls.{state_of}
 use Rattle.caption_box.specs.Rehearsals.{run_of, Rehearsed, Stepped, Gone}
 use Rattle.caption_box.proofs.ManySteps.{went_on, stayed, Ran, ran_none, ran_more, came_stopped, came_all}
 

@@ -4,9 +4,8 @@ use Rattle.std.proofs.lemmas.List.{at_drop_more, at_drop_all, take_more, take_mo
 use Rattle.reader.specs.declared.types.Refusal.{Refusal}
 use Rattle.reader.specs.declared.types.Refusal.TheVariants.{SmallStore, ManyInputs, OverTop}
 use Rattle.reader.specs.WrittenRun.{Counts, no_counts}
-use Rattle.translator.specs.Following.{Low}
 use Rattle.caption_box.specs.Seats.{all_below, entered, input_at}
-use Rattle.caption_box.specs.Calls.{Setting, scene, seats, seated, beginning, Started, Unstarted}
+use Rattle.caption_box.specs.Calls.{Setting, scene, seats, seated, Started, Unstarted}
 use Rattle.caption_box.proofs.Low.{low_cons, low_tested, start_length}
 
 pub scan_at : (top : ℕ) (xs : List ℕ) (i : ℕ) (b : Bool) → i < length xs → leb (get_or xs i 0) top ≡ b

@@ -1,7 +1,7 @@
 -- The sheets to try, by computation.
-use Rattle.std.proofs.Common.{ℕ, List, refl, arith}
+use Rattle.std.proofs.Common.{refl, arith}
 use Rattle.std.specs.Fmt.{digits}
-use Rattle.reader.specs.Sheet.{Sheet, done, plus, minus, loop}
+use Rattle.reader.specs.Sheet.{done, plus, minus, loop}
 use Rattle.reader.specs.Claims.{SheetText}
 use Rattle.reader.proofs.Exampled.{by_printing}
 use Rattle.caption_box.specs.Calls.{tick_box, tick_steps, tick_state}

@@ -1,5 +1,5 @@
 -- The pieces of a step make the step by the GOTO rules.
-use Rattle.std.proofs.Common.{◌≡◌, ℕ, zero, suc, ◌+◌, ◌<◌, ◌≤◌, max, Bool, true, false, cond, not, ◌&&◌, eqb, ltb, leb, List, [], ◌∷◌, length, get_or, Some, None, Option as Answer, sym, refl, ap, ◌∙◌, subst, ⊎_elim, le_of_suc-le-suc, arith, length-set}
+use Rattle.std.proofs.Common.{◌≡◌, ℕ, zero, suc, ◌+◌, ◌<◌, ◌≤◌, Bool, true, false, cond, not, ◌&&◌, eqb, ltb, leb, List, [], ◌∷◌, length, get_or, Some, None, sym, refl, ap, ◌∙◌, subst, arith, length-set}
 use mathlib.Core.Option.{Option, none, some}
 use lib.ListN.{get_elem?}
 use Rattle.std.proofs.lemmas.Bool.{ne_eqb}
@@ -17,7 +17,7 @@ use Rattle.translator.specs.Seals.{answer}
 use Rattle.caption_box.specs.declared.types.State.{State}
 use Rattle.caption_box.specs.declared.types.State.TheVariants.{Ended, Unfit, Over, Time}
 use Rattle.caption_box.specs.Tallies.{counted}
-use Rattle.caption_box.specs.Calls.{Setting, step, state_of, onward, largest_tally}
+use Rattle.caption_box.specs.Calls.{Setting, step, state_of, largest_tally}
 use Rattle.caption_box.specs.Stepping.{fate, stored, label_after, finds_more}
 
 -- what a step comes to, by the state before it and the box after it

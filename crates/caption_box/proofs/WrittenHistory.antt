@@ -1,11 +1,11 @@
 -- A rehearsal takes the steps of the account, and histories of the same course have the same account.
-use Rattle.std.proofs.Common.{◌≡◌, ℕ, zero, suc, ◌+◌, ◌-◌, ◌<◌, ◌≤◌, Bool, true, false, cond, T, ltb, leb, List, [], ◌∷◌, ◌++◌, length, get_or, take, drop, set, Ok, Err, Result, sym, refl, ap, ◌∙◌, subst, ⊎_elim, add-zero, arith, leb→le}
+use Rattle.std.proofs.Common.{◌≡◌, ℕ, zero, suc, ◌+◌, ◌-◌, ◌≤◌, Bool, true, false, cond, ltb, leb, List, [], ◌∷◌, length, get_or, take, drop, set, Ok, Err, Result, sym, refl, ap, ◌∙◌, subst, add-zero, arith}
 use lib.Seq.{take-set-lt}
 use Rattle.std.proofs.lemmas.List.{get_or-take}
 use Rattle.reader.specs.declared.types.Refusal.{Refusal}
 use Rattle.reader.specs.declared.types.Refusal.TheVariants.{NoRegister, OverTop, SmallStore, ManyInputs, LongTick, LongShow}
 use Rattle.reader.specs.Sheet.{Sheet, done, plus, minus, loop, while, then, Fit}
-use Rattle.reader.specs.Steps.{Next, went, waits, ended, unfit, if_low, go_on, count_on, many, many_done}
+use Rattle.reader.specs.Steps.{Next, went, waits, ended, unfit, if_low, go_on, count_on, many_done}
 use Rattle.reader.specs.WrittenRun.{Counts, WrittenRun, running, no_counts, times, one_plain, one_loop, one_while, after_while, written_of, written_step, written_steps}
 use Rattle.reader.proofs.Steps.{many_add, many-many_done}
 use Rattle.reader.proofs.Counts.{fit_then}
@@ -13,11 +13,11 @@ use Rattle.stores.specs.Stores as stores
 use Rattle.translator.specs.Following.{Playable}
 use Rattle.translator.proofs.Fullest.{fit_times}
 use Rattle.caption_box.specs.declared.types.Ticked.{Ticked}
-use Rattle.caption_box.specs.Seats.{all_below, entered}
-use Rattle.caption_box.specs.Calls.{Scene, Outcome, outcome, ticks, corrects, rewinds, state_of}
+use Rattle.caption_box.specs.Seats.{all_below}
+use Rattle.caption_box.specs.Calls.{Scene, Outcome, state_of}
 use Rattle.caption_box.specs.History.{History, started, ticked, corrected, rewound, asked, refused, Account, account_start, account_tick, account_correct, account, Past, on_start, on_tick, on_correct, on_rewind, on_ask, on_refusal, between}
 use Rattle.caption_box.specs.WrittenCalls.{WrittenScene, written_scene, WrittenOutcome, written_outcome, written_ticks, written_beginning, written_rewinds, written_corrects}
-use Rattle.caption_box.specs.WrittenHistory.{WrittenPast, rehearsal_start, rehearsal_tick, rehearsal_correct, rehearsal_rewind, rehearsal_ask, rehearsal_refusal, rehearsal_between, Correction, Course, course_of, RehearsalFollows, RehearsalAndShowAgree}
+use Rattle.caption_box.specs.WrittenHistory.{WrittenPast, rehearsal_start, rehearsal_tick, rehearsal_correct, rehearsal_rewind, rehearsal_ask, rehearsal_refusal, rehearsal_between, Correction, course_of, RehearsalFollows, RehearsalAndShowAgree}
 use Rattle.caption_box.proofs.Low.{start_front}
 use Rattle.caption_box.proofs.Holds.{by_tick, by_call, follows}
 use Rattle.caption_box.proofs.Cases as show
@@ -321,10 +321,10 @@ Top top o = o.after.setting.top ≡ top
 shown_reaches : (p : Sheet) (h : History) (x : Scene) → Past p h x → Reaches x.setting.top p h
 shown_reaches p _ _ (on_start g xs ν x pl low ok e) = tt
 shown_reaches p _ _ (on_tick k t h x y past e) =
-    let same = subst (Top {A = Ticked} x.setting.top) (sym e) (show.tick-cases x k (Top {A = Ticked} x.setting.top) (λ f. refl) refl) in
+    let same = subst (Top {A = Ticked} x.setting.top) (sym e) (show.tick_cases x k (Top {A = Ticked} x.setting.top) (λ f. refl) refl) in
     (subst (λ (top : ℕ). Reaches top p h) (sym same) (shown_reaches p h x past), sym (follows p _ y (on_tick k t h x y past e)).agrees.written)
 shown_reaches p _ _ (on_correct i v h x y past e) =
-    let same = subst (Top {A = Unit {0}} x.setting.top) (sym e) (show.correct-cases x i v (Top {A = Unit {0}} x.setting.top) (λ f. refl) (λ hi hv. refl)) in
+    let same = subst (Top {A = Unit {0}} x.setting.top) (sym e) (show.correct_cases x i v (Top {A = Unit {0}} x.setting.top) (λ f. refl) (λ hi hv. refl)) in
     subst (λ (top : ℕ). Reaches top p h) (sym same) (shown_reaches p h x past)
 shown_reaches p _ _ (on_rewind xs h x y past e) = tt
 shown_reaches p _ _ (on_ask q v h x past e) = shown_reaches p h x past
@@ -338,7 +338,7 @@ corrects_top : (x : WrittenScene) (i v : ℕ) → WrittenTop x.top (written_corr
 corrects_top x i v = go (ltb (length x.run.registers) 32) (ltb 31 i)
   where
     a : Result (Unit {0}) Refusal
-    a = stores.writeOf x.run.registers x.top i v
+    a = stores.write_of x.run.registers x.top i v
 
     y : WrittenScene
     y = written_scene x.sheet x.top (running (stores.written_of x.run.registers x.top i v) x.run.rest x.run.counts)

@@ -1,16 +1,16 @@
 -- The pieces of a written step make the step of the written run.
-use Rattle.std.proofs.Common.{◌≡◌, ℕ, zero, suc, ◌+◌, ◌*◌, ◌<◌, ◌≤◌, Bool, true, false, cond, ◌&&◌, ltb, leb, List, length, sym, refl, ap, ◌∙◌, subst, ⊎_elim, arith, length-set}
+use Rattle.std.proofs.Common.{◌≡◌, ℕ, zero, suc, ◌+◌, ◌<◌, ◌≤◌, Bool, true, false, cond, leb, List, length, sym, refl, ap, ◌∙◌, subst, ⊎_elim, arith, length-set}
 use Rattle.std.proofs.lemmas.Bool.{cases_lt, lt-ltb}
 use Rattle.reader.specs.declared.types.Statement.{Statement}
 use Rattle.reader.specs.declared.types.Kind.{Kind}
 use Rattle.reader.specs.declared.types.Kind.TheVariants.{Zero, Plus, Minus, Loop, While}
 use Rattle.reader.specs.Sheet.{Sheet, done}
-use Rattle.reader.specs.Steps.{Next, went, waits, ended, unfit, if_low}
+use Rattle.reader.specs.Steps.{Next, went, if_low}
 use Rattle.reader.specs.WrittenRun.{Counts, WrittenRun, running, after_while, written_of, written_step}
 use Rattle.reader.specs.Checks.{at, span, sheet_of, IsSheet}
-use Rattle.reader.proofs.Spans.{span_none, zero_statement}
+use Rattle.reader.proofs.Spans.{span_none}
 use Rattle.caption_box.specs.declared.types.State.{State}
-use Rattle.caption_box.specs.declared.types.State.TheVariants.{Ended, Unfit, Over, Time}
+use Rattle.caption_box.specs.declared.types.State.TheVariants.{Ended, Over, Time}
 use Rattle.caption_box.specs.declared.rehearsal.Position.{Position}
 use Rattle.caption_box.specs.declared.rehearsal.WrittenTallies.{WrittenTallies}
 use Rattle.caption_box.specs.declared.rehearsal.Rehearsal.{Rehearsal}
@@ -18,7 +18,7 @@ use Rattle.caption_box.specs.Calls.{state_of, onward}
 use Rattle.caption_box.specs.Rests.{Recs, rest_in, rest_of, body_end, Stands, Held, leaves, leaves_while, rest_behind, rest_after, Reaches}
 use Rattle.caption_box.specs.WrittenSteps.{found_in, kind_fate, written_fate, written_stored, counted_while, written_counted, Counted}
 use Rattle.caption_box.specs.Rehearsals.{written_counts, records_of, run_of, Rehearsed, Stepped}
-use Rattle.caption_box.proofs.Fines.{Real, Fine, fines}
+use Rattle.caption_box.proofs.Fines.{Real, fines}
 use Rattle.caption_box.proofs.Levels.{ends, rest_here, stands_within, at_within}
 use Rattle.caption_box.proofs.Leaving.{record_past}
 use Rattle.caption_box.proofs.ManySteps.{stayed}

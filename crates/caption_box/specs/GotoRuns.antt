@@ -1,5 +1,5 @@
 -- Runs by the published GOTO rules, and the run that a tick takes.
-use Rattle.std.specs.Prelude.{◌≡◌, ℕ, zero, suc, ◌<◌, ◌≤◌, List, ◌≢◌}
+use Rattle.std.specs.Prelude.{ℕ, zero, suc, ◌<◌, ◌≤◌, List, ◌≢◌}
 use Rattle.translator.specs.declared.types.Instruction.{Instruction}
 use Rattle.translator.specs.JumpCode.{AllFit, Box}
 use Rattle.translator.specs.GotoRules.{GotoStep}

@@ -3,7 +3,7 @@ use Rattle.std.specs.Prelude.{ℕ, ◌+◌, cond, List, ◌++◌, length, drop, 
 use Rattle.reader.specs.declared.types.Refusal.{Refusal}
 use Rattle.reader.specs.declared.types.Refusal.TheVariants.{NoRegister, OverTop, SmallStore, ManyInputs, LongTick, LongShow}
 use Rattle.reader.specs.Sheet.{Sheet}
-use Rattle.reader.specs.Steps.{many, many_done}
+use Rattle.reader.specs.Steps.{many_done}
 use Rattle.reader.specs.WrittenRun.{WrittenRun, running, no_counts, written_step, written_steps}
 use Rattle.stores.specs.Stores.{read_of, write_of, written_of}
 use Rattle.caption_box.specs.declared.types.Ticked.{Ticked}

@@ -3,7 +3,7 @@
 use Rattle.std.specs.Prelude.{◌≡◌, ℕ, ◌≤◌, List, [], ◌∷◌, length, take, Ok}
 use Rattle.reader.specs.declared.types.Refusal.{Refusal}
 use Rattle.reader.specs.Sheet.{Sheet}
-use Rattle.reader.specs.WrittenRun.{WrittenRun, running}
+use Rattle.reader.specs.WrittenRun.{running}
 use Rattle.translator.specs.Following.{Playable}
 use Rattle.caption_box.specs.declared.types.Ticked.{Ticked}
 use Rattle.caption_box.specs.declared.types.Question.{Question}

@@ -6,18 +6,18 @@ use stores::store::Store;
 
 // Number i, where there is one.
 pub(crate) fn get<S: Store>(store: &S, i: usize) -> u32
-    requires { i < length (numbers store.now) }
-    ensures sound { Sound (numbers store.now) (limit store.now) }
-    ensures got { result ≡ slice_index (numbers store.now) i }
+    requires { i < length (S.Store.numbers store.now) }
+    ensures sound { Sound (S.Store.numbers store.now) (S.Store.limit store.now) }
+    ensures got { result ≡ slice_index (S.Store.numbers store.now) i }
 {
     store.read(i).unwrap()
 }
 
 // Puts v at i, where there is a number and v is not above the top.
 pub(crate) fn put<S: Store>(store: &mut S, i: usize, v: u32)
-    requires { (i < length (numbers store.old)) × (v ≤ limit store.old) }
-    ensures top { limit store.new ≡ limit store.old }
-    ensures put { numbers store.new ≡ slice_set (numbers store.old) i v }
+    requires { (i < length (S.Store.numbers store.old)) × (v ≤ S.Store.limit store.old) }
+    ensures top { S.Store.limit store.new ≡ S.Store.limit store.old }
+    ensures put { S.Store.numbers store.new ≡ slice_set (S.Store.numbers store.old) i v }
 {
     store.write(i, v).unwrap()
 }

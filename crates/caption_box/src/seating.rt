@@ -35,10 +35,10 @@ fn input(inputs: &[u32], i: usize) -> u32
 
 // Puts the inputs into x1, x2 and on, and 0 into the other registers below n.
 fn fill<S: Store>(n: usize, store: &mut S, inputs: &[u32])
-    requires room { n ≤ length (numbers store.old) }
-    requires fit { all_below (limit store.old) inputs.now ≡ true }
-    ensures top { limit store.new ≡ limit store.old }
-    ensures filled { numbers store.new ≡ entered_in n inputs.now ++ drop n (numbers store.old) }
+    requires room { n ≤ length (S.Store.numbers store.old) }
+    requires fit { all_below (S.Store.limit store.old) inputs.now ≡ true }
+    ensures top { S.Store.limit store.new ≡ S.Store.limit store.old }
+    ensures filled { S.Store.numbers store.new ≡ entered_in n inputs.now ++ drop n (S.Store.numbers store.old) }
 {
     for i in 0..n {
         put(store, i, input(inputs, i));
@@ -47,10 +47,10 @@ fn fill<S: Store>(n: usize, store: &mut S, inputs: &[u32])
 
 // Puts a run that needs n registers to its beginning, unless the store or the inputs are refused.
 pub(crate) fn seat<S: Store>(n: usize, store: &mut S, inputs: &[u32]) -> Result<(), Refusal>
-    ensures sound { Sound (numbers store.old) (limit store.old) }
-    ensures top { limit store.new ≡ limit store.old }
-    ensures answer { result ≡ seats n (limit store.old) (numbers store.old) inputs.now }
-    ensures numbers { numbers store.new ≡ seated n (limit store.old) (numbers store.old) inputs.now }
+    ensures sound { Sound (S.Store.numbers store.old) (S.Store.limit store.old) }
+    ensures top { S.Store.limit store.new ≡ S.Store.limit store.old }
+    ensures answer { result ≡ seats n (S.Store.limit store.old) (S.Store.numbers store.old) inputs.now }
+    ensures numbers { S.Store.numbers store.new ≡ seated n (S.Store.limit store.old) (S.Store.numbers store.old) inputs.now }
 {
     if store.count() < n {
         return Err(Refusal::SmallStore);

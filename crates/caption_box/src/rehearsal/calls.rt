@@ -19,11 +19,11 @@ impl<'a> Rehearsal<'a> {
         store: &mut S,
         inputs: &[u32],
     ) -> Result<Rehearsal<'a>, Refusal>
-        ensures top { limit store.new ≡ limit store.old }
+        ensures top { S.Store.limit store.new ≡ S.Store.limit store.old }
         ensures same { IfOk result (λ s. s.records ≡ records.entry) }
         ensures exact { MatchResult result
-            (λ s. WrittenStarted records.now (limit store.old) (numbers store.old) inputs.now s (written_scene_of s (numbers store.new) (limit store.new)))
-            (λ e. WrittenUnstarted records.now (limit store.old) (numbers store.old) inputs.now e (numbers store.new)) }
+            (λ s. WrittenStarted records.now (S.Store.limit store.old) (S.Store.numbers store.old) inputs.now s (written_scene_of s (S.Store.numbers store.new) (S.Store.limit store.new)))
+            (λ e. WrittenUnstarted records.now (S.Store.limit store.old) (S.Store.numbers store.old) inputs.now e (S.Store.numbers store.new)) }
     {
         if !is_sheet(records) {
             return Err(Refusal::NoSheet);
@@ -40,10 +40,10 @@ impl<'a> Rehearsal<'a> {
 
     // Does up to k written steps; the answer says how many, and how the rehearsal then stands.
     pub fn tick<S: Store>(&mut self, store: &mut S, k: u32) -> Result<Ticked, Refusal>
-        ensures top { limit store.new ≡ limit store.old }
+        ensures top { S.Store.limit store.new ≡ S.Store.limit store.old }
         ensures same { self.new.records ≡ self.old.records }
         ensures kept { Rehearsed self.old → Rehearsed self.new }
-        ensures exact { Rehearsed self.old → written_outcome result (written_scene_of self.new (numbers store.new) (limit store.new)) ≡ written_ticks (written_scene_of self.old (numbers store.old) (limit store.old)) k }
+        ensures exact { Rehearsed self.old → written_outcome result (written_scene_of self.new (S.Store.numbers store.new) (S.Store.limit store.new)) ≡ written_ticks (written_scene_of self.old (S.Store.numbers store.old) (S.Store.limit store.old)) k }
     {
         if store.count() < 32 {
             return Err(Refusal::SmallStore);
@@ -61,7 +61,7 @@ impl<'a> Rehearsal<'a> {
     pub fn rewind<S: Store>(&mut self, store: &mut S, inputs: &[u32]) -> Result<(), Refusal>
         ensures same { self.new.records ≡ self.old.records }
         ensures kept { Rehearsed self.old → Rehearsed self.new }
-        ensures exact { written_outcome result (written_scene_of self.new (numbers store.new) (limit store.new)) ≡ written_rewinds (written_scene_of self.old (numbers store.old) (limit store.old)) inputs.now }
+        ensures exact { written_outcome result (written_scene_of self.new (S.Store.numbers store.new) (S.Store.limit store.new)) ≡ written_rewinds (written_scene_of self.old (S.Store.numbers store.old) (S.Store.limit store.old)) inputs.now }
     {
         if let Err(refusal) = seat(32, store, inputs) {
             return Err(refusal);
@@ -80,7 +80,7 @@ impl<'a> Rehearsal<'a> {
     ) -> Result<(), Refusal>
         ensures same { self.new ≡ self.old }
         ensures kept { Rehearsed self.old → Rehearsed self.new }
-        ensures exact { written_outcome result (written_scene_of self.new (numbers store.new) (limit store.new)) ≡ written_corrects (written_scene_of self.old (numbers store.old) (limit store.old)) register value }
+        ensures exact { written_outcome result (written_scene_of self.new (S.Store.numbers store.new) (S.Store.limit store.new)) ≡ written_corrects (written_scene_of self.old (S.Store.numbers store.old) (S.Store.limit store.old)) register value }
     {
         if store.count() < 32 {
             return Err(Refusal::SmallStore);
@@ -93,7 +93,7 @@ impl<'a> Rehearsal<'a> {
 
     // One of x0 to x31, or a tally; box steps are 0.
     pub fn ask<S: Store>(&self, store: &S, question: Question) -> Result<u128, Refusal>
-        ensures { result ≡ written_asks (written_scene_of self.now (numbers store.now) (limit store.now)) question }
+        ensures { result ≡ written_asks (written_scene_of self.now (S.Store.numbers store.now) (S.Store.limit store.now)) question }
     {
         if store.count() < 32 {
             return Err(Refusal::SmallStore);
@@ -114,7 +114,7 @@ impl<'a> Rehearsal<'a> {
 
     // The line on the screen, x0.
     pub fn line<S: Store>(&self, store: &S) -> Result<u128, Refusal>
-        ensures { result ≡ written_asks (written_scene_of self.now (numbers store.now) (limit store.now)) (Register 0) }
+        ensures { result ≡ written_asks (written_scene_of self.now (S.Store.numbers store.now) (S.Store.limit store.now)) (Register 0) }
     {
         self.ask(store, Question::Register(0))
     }

@@ -10,8 +10,8 @@ use stores::store::Store;
 
 // Whether a statement can be done.
 pub(super) fn fate<S: Store>(statement: Statement, store: &S) -> State
-    requires { 32 ≤ length (numbers store.now) }
-    ensures { result ≡ written_fate (limit store.now) (numbers store.now) statement }
+    requires { 32 ≤ length (S.Store.numbers store.now) }
+    ensures { result ≡ written_fate (S.Store.limit store.now) (S.Store.numbers store.now) statement }
 {
     if statement.target < 32 && statement.source < 32 {
         match statement.kind {
@@ -35,11 +35,11 @@ pub(super) fn fate<S: Store>(statement: Statement, store: &S) -> State
 
 // Does to the registers what a statement that can be done does, and tells what its source held.
 pub(super) fn perform<S: Store>(statement: Statement, store: &mut S) -> u32
-    requires room { 32 ≤ length (numbers store.old) }
-    requires time { written_fate (limit store.old) (numbers store.old) statement ≡ Time }
-    ensures top { limit store.new ≡ limit store.old }
-    ensures stored { numbers store.new ≡ written_stored statement.kind (numbers store.old) statement }
-    ensures found { result ≡ found_in (numbers store.old) statement }
+    requires room { 32 ≤ length (S.Store.numbers store.old) }
+    requires time { written_fate (S.Store.limit store.old) (S.Store.numbers store.old) statement ≡ Time }
+    ensures top { S.Store.limit store.new ≡ S.Store.limit store.old }
+    ensures stored { S.Store.numbers store.new ≡ written_stored statement.kind (S.Store.numbers store.old) statement }
+    ensures found { result ≡ found_in (S.Store.numbers store.old) statement }
 {
     let found = get(store, statement.source);
     match statement.kind {

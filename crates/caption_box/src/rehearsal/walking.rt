@@ -1,7 +1,7 @@
 // Where a rehearsal goes in its records. The levels stand in an array of eight, and nothing of a body is copied.
 ghost use Rattle.std.specs.Prelude.{◌≡◌, ℕ, ◌<◌, length};
-ghost use Rattle.reader.specs.Checks.{at as recordIn, IsSheet};
-ghost use Rattle.caption_box.specs.Rests.{level_at, body_end, with_level, opened as openedAt, Held, Reaches, rest_behind, rest_after};
+ghost use Rattle.reader.specs.Checks.{at as record_in, IsSheet};
+ghost use Rattle.caption_box.specs.Rests.{level_at, body_end, with_level, opened as opened_at, Held, Reaches, rest_behind, rest_after};
 
 use super::{Level, Position};
 use reader::next_sibling;
@@ -9,7 +9,7 @@ use reader::types::{Kind, Placed, Statement, ZERO_RECORD};
 
 // Record i, and a zero record past the end.
 pub(super) fn record_at(records: &[Placed<Statement>], i: usize) -> Statement
-    ensures { result ≡ recordIn records.now i }
+    ensures { result ≡ record_in records.now i }
 {
     if i < records.len() {
         records[i].item
@@ -67,7 +67,7 @@ impl Position {
 
     // Before the body of its statement, in a level of its own.
     fn opened(self, left: u32) -> Position
-        ensures { self.depth < 8 → self.at < 256 → result ≡ openedAt self left }
+        ensures { self.depth < 8 → self.at < 256 → result ≡ opened_at self left }
     {
         let level = Level {
             head: self.at,
@@ -117,7 +117,7 @@ impl Position {
 
     // After the step of its statement, which is of that kind and whose source held `found`.
     pub(super) fn moved(self, records: &[Placed<Statement>], kind: Kind, found: u32) -> Position
-        ensures { IsSheet records.now → Held records.now self → kind ≡ (recordIn records.now self.at).kind
+        ensures { IsSheet records.now → Held records.now self → kind ≡ (record_in records.now self.at).kind
             → Reaches records.now result (rest_after records.now self found) }
     {
         match kind {

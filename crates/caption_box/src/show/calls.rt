@@ -10,7 +10,7 @@ ghost use Rattle.caption_box.specs.declared.types.Question.TheVariants.{Register
 ghost use Rattle.caption_box.specs.Calls.{outcome, ticks, rewinds, corrects, asks, Started, Unstarted};
 ghost use Rattle.caption_box.specs.Shows.{code_setting, setting_of, box_of, scene_of};
 ghost use Rattle.caption_box.specs.GotoRuns.{GotoTick};
-ghost use Rattle.caption_box.specs.History.{Plays, History.started as startedWith, Call.tickCall, Call.correctCall, Call.rewindCall, Call.askCall, add_tick, add_correct, add_rewind, add_ask};
+ghost use Rattle.caption_box.specs.History.{Plays, History.started as started_with, Call.tick_call, Call.correct_call, Call.rewind_call, Call.ask_call, add_tick, add_correct, add_rewind, add_ask};
 ghost use Rattle.caption_box.specs.Claim.{Follows, Carries, CarriesRefused, LineFollows};
 
 use super::{RefusedStart, Show};
@@ -28,15 +28,15 @@ impl<'c> Show<'c> {
         store: &mut S,
         inputs: &[u32],
     ) -> Result<Show<'c>, RefusedStart<'c>>
-        ensures top { limit store.new ≡ limit store.old }
+        ensures top { S.Store.limit store.new ≡ S.Store.limit store.old }
         ensures code { MatchResult result (λ s. s.sealed ≡ sealed.entry) (λ e. e.sealed ≡ sealed.entry) }
         ensures exact { MatchResult result
-            (λ s. Started (code_setting sealed.entry (limit store.old)) (numbers store.old) inputs.now (scene_of s (numbers store.new) (limit store.new)))
-            (λ e. Unstarted (code_setting sealed.entry (limit store.old)) (numbers store.old) inputs.now e.refusal (numbers store.new)) }
-        ensures follows { (p : Sheet) → Plays p (code_setting sealed.entry (limit store.old))
-            → IfOk result (λ s. Follows p (startedWith inputs.now) (scene_of s (numbers store.new) (limit store.new))) }
+            (λ s. Started (code_setting sealed.entry (S.Store.limit store.old)) (S.Store.numbers store.old) inputs.now (scene_of s (S.Store.numbers store.new) (S.Store.limit store.new)))
+            (λ e. Unstarted (code_setting sealed.entry (S.Store.limit store.old)) (S.Store.numbers store.old) inputs.now e.refusal (S.Store.numbers store.new)) }
+        ensures follows { (p : Sheet) → Plays p (code_setting sealed.entry (S.Store.limit store.old))
+            → IfOk result (λ s. Follows p (started_with inputs.now) (scene_of s (S.Store.numbers store.new) (S.Store.limit store.new))) }
         ensures loaded { (text : List ℕ) (n f c : ℕ) (rs : List (Placed Statement)) (fs : List (Placed Flat)) (l : Loaded text n f c rs fs sealed.entry)
-            → IfOk result (λ s. Follows l.sheet (startedWith inputs.now) (scene_of s (numbers store.new) (limit store.new))) }
+            → IfOk result (λ s. Follows l.sheet (started_with inputs.now) (scene_of s (S.Store.numbers store.new) (S.Store.limit store.new))) }
     {
         match seat(sealed.registers(), store, inputs) {
             Ok(()) => Ok(Show {
@@ -50,7 +50,7 @@ impl<'c> Show<'c> {
 
     fn tick_exactly<S: Store>(&mut self, store: &mut S, k: u32) -> Result<Ticked, Refusal>
         ensures code { self.new.sealed ≡ self.old.sealed }
-        ensures exact { outcome result (scene_of self.new (numbers store.new) (limit store.new)) ≡ ticks (scene_of self.old (numbers store.old) (limit store.old)) k }
+        ensures exact { outcome result (scene_of self.new (S.Store.numbers store.new) (S.Store.limit store.new)) ≡ ticks (scene_of self.old (S.Store.numbers store.old) (S.Store.limit store.old)) k }
     {
         if store.count() < self.sealed.registers() {
             return Err(Refusal::SmallStore);
@@ -67,9 +67,9 @@ impl<'c> Show<'c> {
     // Does up to k steps; the answer says how many, and how the show then stands.
     pub fn tick<S: Store>(&mut self, store: &mut S, k: u32) -> Result<Ticked, Refusal>
         ensures code { self.new.sealed ≡ self.old.sealed }
-        ensures exact { outcome result (scene_of self.new (numbers store.new) (limit store.new)) ≡ ticks (scene_of self.old (numbers store.old) (limit store.old)) k }
-        ensures published { IfOk result (λ t. GotoTick (setting_of self.old (limit store.old)) k (box_of self.old (numbers store.old)) t (box_of self.new (numbers store.new))) }
-        ensures follows { Carries (scene_of self.old (numbers store.old) (limit store.old)) (add_tick k result self.new.tallies.written) (scene_of self.new (numbers store.new) (limit store.new)) }
+        ensures exact { outcome result (scene_of self.new (S.Store.numbers store.new) (S.Store.limit store.new)) ≡ ticks (scene_of self.old (S.Store.numbers store.old) (S.Store.limit store.old)) k }
+        ensures published { IfOk result (λ t. GotoTick (setting_of self.old (S.Store.limit store.old)) k (box_of self.old (S.Store.numbers store.old)) t (box_of self.new (S.Store.numbers store.new))) }
+        ensures follows { Carries (scene_of self.old (S.Store.numbers store.old) (S.Store.limit store.old)) (add_tick k result self.new.tallies.written) (scene_of self.new (S.Store.numbers store.new) (S.Store.limit store.new)) }
         ensures aside { CarriesRefused (tick_call k) result self.old self.new }
     {
         self.tick_exactly(store, k)
@@ -77,7 +77,7 @@ impl<'c> Show<'c> {
 
     fn rewind_exactly<S: Store>(&mut self, store: &mut S, inputs: &[u32]) -> Result<(), Refusal>
         ensures code { self.new.sealed ≡ self.old.sealed }
-        ensures exact { outcome result (scene_of self.new (numbers store.new) (limit store.new)) ≡ rewinds (scene_of self.old (numbers store.old) (limit store.old)) inputs.now }
+        ensures exact { outcome result (scene_of self.new (S.Store.numbers store.new) (S.Store.limit store.new)) ≡ rewinds (scene_of self.old (S.Store.numbers store.old) (S.Store.limit store.old)) inputs.now }
     {
         if let Err(refusal) = seat(self.sealed.registers(), store, inputs) {
             return Err(refusal);
@@ -90,8 +90,8 @@ impl<'c> Show<'c> {
     // Puts the show to its beginning again.
     pub fn rewind<S: Store>(&mut self, store: &mut S, inputs: &[u32]) -> Result<(), Refusal>
         ensures code { self.new.sealed ≡ self.old.sealed }
-        ensures exact { outcome result (scene_of self.new (numbers store.new) (limit store.new)) ≡ rewinds (scene_of self.old (numbers store.old) (limit store.old)) inputs.now }
-        ensures follows { Carries (scene_of self.old (numbers store.old) (limit store.old)) (add_rewind inputs.now result) (scene_of self.new (numbers store.new) (limit store.new)) }
+        ensures exact { outcome result (scene_of self.new (S.Store.numbers store.new) (S.Store.limit store.new)) ≡ rewinds (scene_of self.old (S.Store.numbers store.old) (S.Store.limit store.old)) inputs.now }
+        ensures follows { Carries (scene_of self.old (S.Store.numbers store.old) (S.Store.limit store.old)) (add_rewind inputs.now result) (scene_of self.new (S.Store.numbers store.new) (S.Store.limit store.new)) }
         ensures aside { CarriesRefused (rewind_call inputs.now) result self.old self.new }
     {
         self.rewind_exactly(store, inputs)
@@ -104,7 +104,7 @@ impl<'c> Show<'c> {
         value: u32,
     ) -> Result<(), Refusal>
         ensures code { self.new.sealed ≡ self.old.sealed }
-        ensures exact { outcome result (scene_of self.new (numbers store.new) (limit store.new)) ≡ corrects (scene_of self.old (numbers store.old) (limit store.old)) register value }
+        ensures exact { outcome result (scene_of self.new (S.Store.numbers store.new) (S.Store.limit store.new)) ≡ corrects (scene_of self.old (S.Store.numbers store.old) (S.Store.limit store.old)) register value }
     {
         if store.count() < self.sealed.registers() {
             return Err(Refusal::SmallStore);
@@ -123,15 +123,15 @@ impl<'c> Show<'c> {
         value: u32,
     ) -> Result<(), Refusal>
         ensures code { self.new.sealed ≡ self.old.sealed }
-        ensures exact { outcome result (scene_of self.new (numbers store.new) (limit store.new)) ≡ corrects (scene_of self.old (numbers store.old) (limit store.old)) register value }
-        ensures follows { Carries (scene_of self.old (numbers store.old) (limit store.old)) (add_correct register value result) (scene_of self.new (numbers store.new) (limit store.new)) }
+        ensures exact { outcome result (scene_of self.new (S.Store.numbers store.new) (S.Store.limit store.new)) ≡ corrects (scene_of self.old (S.Store.numbers store.old) (S.Store.limit store.old)) register value }
+        ensures follows { Carries (scene_of self.old (S.Store.numbers store.old) (S.Store.limit store.old)) (add_correct register value result) (scene_of self.new (S.Store.numbers store.new) (S.Store.limit store.new)) }
         ensures aside { CarriesRefused (correct_call register value) result self.old self.new }
     {
         self.correct_exactly(store, register, value)
     }
 
     fn ask_exactly<S: Store>(&self, store: &S, question: Question) -> Result<u64, Refusal>
-        ensures { result ≡ asks (scene_of self.now (numbers store.now) (limit store.now)) question }
+        ensures { result ≡ asks (scene_of self.now (S.Store.numbers store.now) (S.Store.limit store.now)) question }
     {
         if store.count() < self.sealed.registers() {
             return Err(Refusal::SmallStore);
@@ -152,8 +152,8 @@ impl<'c> Show<'c> {
 
     // One of x0 to x31, or a tally.
     pub fn ask<S: Store>(&self, store: &S, question: Question) -> Result<u64, Refusal>
-        ensures exact { result ≡ asks (scene_of self.now (numbers store.now) (limit store.now)) question }
-        ensures follows { Carries (scene_of self.now (numbers store.now) (limit store.now)) (add_ask question result) (scene_of self.now (numbers store.now) (limit store.now)) }
+        ensures exact { result ≡ asks (scene_of self.now (S.Store.numbers store.now) (S.Store.limit store.now)) question }
+        ensures follows { Carries (scene_of self.now (S.Store.numbers store.now) (S.Store.limit store.now)) (add_ask question result) (scene_of self.now (S.Store.numbers store.now) (S.Store.limit store.now)) }
         ensures aside { CarriesRefused (ask_call question) result self.now self.now }
     {
         self.ask_exactly(store, question)
@@ -162,8 +162,8 @@ impl<'c> Show<'c> {
     // The line on the screen, x0. For any history that led here it is the line of the written sheet, and all that is
     // claimed of a show holds: this is the call that a program makes to know it.
     pub fn line<S: Store>(&self, store: &S) -> Result<u64, Refusal>
-        ensures exact { result ≡ asks (scene_of self.now (numbers store.now) (limit store.now)) (Register 0) }
-        ensures follows { LineFollows (scene_of self.now (numbers store.now) (limit store.now)) result }
+        ensures exact { result ≡ asks (scene_of self.now (S.Store.numbers store.now) (S.Store.limit store.now)) (Register 0) }
+        ensures follows { LineFollows (scene_of self.now (S.Store.numbers store.now) (S.Store.limit store.now)) result }
     {
         self.ask_exactly(store, Question::Register(0))
     }

@@ -13,8 +13,8 @@ use stores::store::Store;
 impl<'c> Show<'c> {
     // How the show stands on the store.
     fn look<S: Store>(&self, store: &S) -> State
-        requires { sealed_width self.now.sealed ≤ length (numbers store.now) }
-        ensures { result ≡ state_of (step_of (setting_of self.now (limit store.now)) (box_of self.now (numbers store.now))) }
+        requires { sealed_width self.now.sealed ≤ length (S.Store.numbers store.now) }
+        ensures { result ≡ state_of (step_of (setting_of self.now (S.Store.limit store.now)) (box_of self.now (S.Store.numbers store.now))) }
     {
         match self.sealed.get(self.next) {
             Some(instruction) => fate(
@@ -29,12 +29,12 @@ impl<'c> Show<'c> {
 
     // Does one step if it can be done, and answers how the show stood before it.
     fn step<S: Store>(&mut self, store: &mut S) -> State
-        requires room { sealed_width self.old.sealed ≤ length (numbers store.old) }
+        requires room { sealed_width self.old.sealed ≤ length (S.Store.numbers store.old) }
         requires more { largest_of self.old.tallies < 1099511627776 }
         ensures code { self.new.sealed ≡ self.old.sealed }
-        ensures top { limit store.new ≡ limit store.old }
-        ensures state { result ≡ state_of (step_of (setting_of self.old (limit store.old)) (box_of self.old (numbers store.old))) }
-        ensures moved { box_of self.new (numbers store.new) ≡ onward (step_of (setting_of self.old (limit store.old)) (box_of self.old (numbers store.old))) (box_of self.old (numbers store.old)) }
+        ensures top { S.Store.limit store.new ≡ S.Store.limit store.old }
+        ensures state { result ≡ state_of (step_of (setting_of self.old (S.Store.limit store.old)) (box_of self.old (S.Store.numbers store.old))) }
+        ensures moved { box_of self.new (S.Store.numbers store.new) ≡ onward (step_of (setting_of self.old (S.Store.limit store.old)) (box_of self.old (S.Store.numbers store.old))) (box_of self.old (S.Store.numbers store.old)) }
     {
         let Some(instruction) = self.sealed.get(self.next) else {
             return State::Unfit;
@@ -52,13 +52,13 @@ impl<'c> Show<'c> {
 
     // Steps until k are done or the next cannot be done.
     pub(super) fn go<S: Store>(&mut self, store: &mut S, k: u32) -> Ticked
-        requires room { sealed_width self.old.sealed ≤ length (numbers store.old) }
+        requires room { sealed_width self.old.sealed ≤ length (S.Store.numbers store.old) }
         requires more { largest_of self.old.tallies + k ≤ 1099511627776 }
         ensures code { self.new.sealed ≡ self.old.sealed }
-        ensures top { limit store.new ≡ limit store.old }
-        ensures moved { box_of self.new (numbers store.new) ≡ tick_box (setting_of self.old (limit store.old)) k (box_of self.old (numbers store.old)) }
-        ensures steps { result.steps ≡ tick_steps (setting_of self.old (limit store.old)) k (box_of self.old (numbers store.old)) }
-        ensures state { result.state ≡ tick_state (setting_of self.old (limit store.old)) k (box_of self.old (numbers store.old)) }
+        ensures top { S.Store.limit store.new ≡ S.Store.limit store.old }
+        ensures moved { box_of self.new (S.Store.numbers store.new) ≡ tick_box (setting_of self.old (S.Store.limit store.old)) k (box_of self.old (S.Store.numbers store.old)) }
+        ensures steps { result.steps ≡ tick_steps (setting_of self.old (S.Store.limit store.old)) k (box_of self.old (S.Store.numbers store.old)) }
+        ensures state { result.state ≡ tick_state (setting_of self.old (S.Store.limit store.old)) k (box_of self.old (S.Store.numbers store.old)) }
     {
         for steps in 0..k {
             let state = self.step(store);

@@ -2,7 +2,7 @@
 ghost use Rattle.std.specs.Prelude.{◌≡◌, ℕ, suc, ◌<◌, ◌≤◌, List, length};
 ghost use Rattle.translator.specs.JumpCode.{inside};
 ghost use Rattle.caption_box.specs.declared.types.State.TheVariants.{Time};
-ghost use Rattle.caption_box.specs.Stepping.{fate as fateOf, stored as storedBy, label_after, finds_more};
+ghost use Rattle.caption_box.specs.Stepping.{fate as fate_of, stored as stored_by, label_after, finds_more};
 
 use crate::access::{get, put};
 use crate::types::State;
@@ -18,8 +18,8 @@ fn is_inside(size: usize, label: usize) -> bool
 
 // Whether an operation of a code of that size can be done, where n registers may be named.
 pub(super) fn fate<S: Store>(operation: Operation, n: usize, size: usize, store: &S) -> State
-    requires { n ≤ length (numbers store.now) }
-    ensures { result ≡ fateOf (limit store.now) n size (numbers store.now) operation }
+    requires { n ≤ length (S.Store.numbers store.now) }
+    ensures { result ≡ fate_of (S.Store.limit store.now) n size (S.Store.numbers store.now) operation }
 {
     match operation {
         Operation::Halt => State::Ended,
@@ -82,13 +82,13 @@ pub(super) fn perform<S: Store>(
     size: usize,
     store: &mut S,
 ) -> Moved
-    requires room { n ≤ length (numbers store.old) }
+    requires room { n ≤ length (S.Store.numbers store.old) }
     requires inside { at < size }
-    requires time { fateOf (limit store.old) n size (numbers store.old) operation ≡ Time }
-    ensures top { limit store.new ≡ limit store.old }
-    ensures stored { numbers store.new ≡ storedBy (numbers store.old) operation }
-    ensures next { suc result.next ≡ label_after (numbers store.old) (suc at) operation }
-    ensures found { result.found ≡ finds_more (numbers store.old) operation }
+    requires time { fate_of (S.Store.limit store.old) n size (S.Store.numbers store.old) operation ≡ Time }
+    ensures top { S.Store.limit store.new ≡ S.Store.limit store.old }
+    ensures stored { S.Store.numbers store.new ≡ stored_by (S.Store.numbers store.old) operation }
+    ensures next { suc result.next ≡ label_after (S.Store.numbers store.old) (suc at) operation }
+    ensures found { result.found ≡ finds_more (S.Store.numbers store.old) operation }
 {
     match operation {
         Operation::Halt => Moved {

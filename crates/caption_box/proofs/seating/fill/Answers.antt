@@ -1,4 +1,4 @@
-use Rattle.std.proofs.Common.{◌≡◌, ◌≤◌, sym, refl, ◌∙◌, subst, arith}
+use Rattle.std.proofs.Common.{◌≡◌, ◌≤◌, refl, ◌∙◌, subst, arith}
 use Rattle.caption_box.specs.Seats.{input_at}
 use Rattle.caption_box.proofs.Seats.{Filled, filled_none, filled_more, filled_all, input_low}
 use Rattle.caption_box.proofs.seating.fill.Goals as goal
