@@ -1,5 +1,5 @@
 -- A window over a window is one window.
-use Rattle.std.proofs.Common.{◌≡◌, ℕ, ◌+◌, ◌-◌, ◌^◌, ◌<◌, ◌≤◌, min, List, length, get_or, take, drop, sym, ap, ◌∙◌, arith, length-drop, length-take, get_or-drop, get_or-take, ext_get_or}
+use Rattle.std.proofs.Common.{◌≡◌, ℕ, ◌+◌, ◌-◌, ◌^◌, ◌<◌, min, List, length, get_or, drop, sym, ap, ◌∙◌, arith, length-drop, length-take, get_or-drop, get_or-take, ext_get_or}
 use Rattle.stores.specs.Windows.{seen}
 use Rattle.console.specs.Views.{Composed}
 

@@ -1,7 +1,7 @@
 -- A text is cut at its first line feed.
 use Rattle.std.proofs.Common.{◌≡◌, ℕ, ◌+◌, ◌-◌, ◌<◌, ◌≤◌, List, ◌∷◌, ◌++◌, length, get_or, take, drop, sym, refl, ap, ◌∙◌, subst, inl, inr, arith, length-drop, take-append-drop, length-take, take_all, get_or-take}
 use Rattle.std.proofs.lemmas.List.{drop_more, drop_all}
-use Rattle.console.specs.Scripts.{OneLine, Cut}
+use Rattle.console.specs.Scripts.{Cut}
 
 -- no line feed stands below n
 abbrev pub NoneBelow : List ℕ → ℕ → Type 0

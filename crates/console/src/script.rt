@@ -40,7 +40,7 @@ impl<'a> Script<'a> {
         let text = self.rest;
         let mut length = 0;
         while let Some(line) = self.next_line() {
-            if line.trim_ascii_end() == b"." {
+            if line.trim_ascii_end() == b".".as_slice() {
                 return Some(&text[0..length]);
             }
             length = text.len() - self.rest.len() - 1;
