@@ -1,22 +1,9 @@
-use Rattle.std.proofs.Common.{refl, arith, length-set}
+use Rattle.std.proofs.Common.{arith}
+use Rattle.filing.proofs.Clears.{sweep_more, put_cleared}
 use Rattle.filing.proofs.table.Table.clear_rest.Goals as goal
-use Rattle.filing.proofs.Clears.{sweep_more, sweep_none, sweep_all}
 
-pub loop-i-init : goal.loop-i-init
-loop-i-init g c = (refl, sweep_none c.args.self.now.filed c.args.zero c.args.self.now.cells.now, refl, omega arith, refl)
+pub loop-cell-preserved : goal.loop-cell-preserved
+loop-cell-preserved g c = sweep_more _ _ _ _ c.loop-cell-test.true c.loop-cell.invariant
 
-pub loop-i-preserved : goal.loop-i-preserved
-loop-i-preserved g c = (
-  c.loop-i.invariant.0,
-  sweep_more c.args.self.now.filed c.loop-i.i c.args.zero c.args.self.now.cells.now c.loop-i.self.cells.now (omega arith) c.loop-i-test.true c.loop-i.invariant.1,
-  simp length-set c.loop-i.invariant.2,
-  omega arith,
-  c.loop-i.invariant.4,
-)
-
-pub returns : goal.returns
-returns g c = record {
-  count = c.loop-i.invariant.0;
-  memory = sweep_all c.args.self.now.filed c.loop-i.i c.args.zero c.args.self.now.cells.now c.loop-i.self.cells.now (omega arith) (omega arith) c.loop-i.invariant.1;
-  lent = c.loop-i.invariant.4;
-}
+pub returns-clause-memory : goal.returns-clause-memory
+returns-clause-memory g c = put_cleared _ c.loop-cell.cell-index c.args.zero _ _ c.args.self.now.within (omega arith) c.loop-cell.invariant
