@@ -1,5 +1,5 @@
 ghost use Rattle.std.specs.Prelude.{◌≡◌, ◌<◌, ◌≤◌, length, Decides};
-ghost use Rattle.reader.specs.Checks.{IsSheet, sibling, Assigned, Headed, Body, IsStatement, loop_count, loops_in};
+ghost use Rattle.reader.specs.Checks.{IsSheet, sibling, Assigned, Headed, Body, IsStatement, loops_in};
 
 use crate::types::{Kind, Placed, Statement};
 
@@ -68,29 +68,11 @@ fn is_body(records: &[Placed<Statement>], from: usize, to: usize, level: usize) 
     true
 }
 
-// 1 for a LOOP, 0 for others.
-fn loop_number(kind: Kind) -> usize
-    ensures value { result ≡ loop_count kind }
-    ensures small { result ≤ 1 }
-{
-    match kind {
-        Kind::Zero => 0,
-        Kind::Plus => 0,
-        Kind::Minus => 0,
-        Kind::Loop => 1,
-        Kind::While => 0,
-    }
-}
-
 // How many of the records are LOOPs.
-fn count_loops(records: &[Placed<Statement>]) -> usize
+pub fn loop_count(records: &[Placed<Statement>]) -> usize
     ensures { result ≡ loops_in records.now }
 {
-    let mut count = 0;
-    for r in records {
-        count += loop_number(r.item.kind);
-    }
-    count
+    records.iter().filter(|r| r.item.kind == Kind::Loop).count()
 }
 
 // Whether the records are, places aside, those of a sheet within the limits.
@@ -100,7 +82,7 @@ pub fn is_sheet(records: &[Placed<Statement>]) -> bool
     if records.len() == 0 || records.len() > 256 {
         return false;
     }
-    if count_loops(records) > 32 {
+    if loop_count(records) > 32 {
         return false;
     }
     is_body(records, 0, records.len(), 0)

@@ -9,11 +9,12 @@ mod parser;
 mod printer;
 mod reading;
 mod refusal;
+mod statement;
 pub mod types;
 mod word;
 mod writer;
 
-pub use check::{is_sheet, next_sibling};
+pub use check::{is_sheet, loop_count, next_sibling};
 pub use printer::{
     example_prints, next_sibling_leads_on, print, print_is_unique, printed_sheet_reads_back,
     read_sheet_prints,

@@ -1,14 +1,16 @@
-ghost use Rattle.std.specs.Prelude.{◌≡◌};
+ghost use Rattle.std.specs.Prelude.{◌≡◌, Some};
 ghost use Rattle.reader.specs.Refusals.{refusal_number, refusal_words};
 
 use crate::types::Refusal;
+use std::error::Error;
+use std::fmt;
 
 impl Refusal {
     // The number of the refusal.
     pub fn number(self) -> u8
         ensures { result ≡ refusal_number self }
     {
-        self as u8
+        u8::from(self)
     }
 
     // The words of the refusal.
@@ -40,3 +42,24 @@ impl Refusal {
         }
     }
 }
+
+// The number of the refusal.
+impl From<Refusal> for u8 {
+    ghost from_gives = { λ r n. n ≡ refusal_number r };
+
+    fn from(refusal: Refusal) -> u8 {
+        refusal as u8
+    }
+}
+
+// The words of the refusal.
+impl fmt::Display for Refusal {
+    ghost output = { λ r. Some (refusal_words r) };
+
+    fn fmt<W: fmt::Write>(&self, f: &mut fmt::Formatter<W>) -> fmt::Result {
+        let words = self.words();
+        write!(f, "{words}")
+    }
+}
+
+impl Error for Refusal {}

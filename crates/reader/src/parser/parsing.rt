@@ -2,7 +2,6 @@ ghost use Rattle.std.specs.Prelude.{◌≡◌, ℕ, suc, ◌+◌, ◌<◌, ◌�
 ghost use Rattle.reader.specs.declared.types.Refusal.TheVariants.{TooDeep, TooMany};
 ghost use Rattle.reader.specs.Symbols.{Symbol, register, placed};
 ghost use Rattle.reader.specs.Machine.{Expect};
-ghost use Rattle.reader.specs.Records.{statement_of};
 ghost use Rattle.reader.specs.Parsing.{text_of, pos_of, memory_of, Kept, StatementRead, BodyRead, Opening, Block, Admitted, HeadRead, Fresh, SheetRead};
 
 use super::record_filing::{amend_record, file_record};
@@ -150,10 +149,10 @@ impl<'a, 't> Parser<'a, 't> {
             return Err(Placed { place, item });
         }
         let source = self.head(kind)?;
-        let index = self.file(place, heading(kind, source, 0));
+        let index = self.file(place, Statement::block(kind, source, 0));
         let follow = self.body(level + 1)?;
         self.cursor.expect_end(follow)?;
-        let item = heading(kind, source, self.counts.statements);
+        let item = Statement::block(kind, source, self.counts.statements);
         self.amend(index, Placed { place, item });
         Ok(())
     }
@@ -192,18 +191,5 @@ impl<'a, 't> Parser<'a, 't> {
             });
         }
         Ok(self.counts.statements)
-    }
-}
-
-// The record of a LOOP or WHILE.
-fn heading(kind: Kind, source: usize, end: usize) -> Statement
-    ensures { result ≡ statement_of kind 0 source 0 end }
-{
-    Statement {
-        kind,
-        target: 0,
-        source,
-        constant: 0,
-        end,
     }
 }

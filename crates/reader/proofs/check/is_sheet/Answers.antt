@@ -8,13 +8,13 @@ returns-then-records-eq0 c =
     let rs = c.args.records.now in
     refuted (λ h. let n = sheet_few rs h in let m = sheet_some rs h in omega (arith, c.then-records-eq0.either))
 
-pub returns-then-count_loops-gt32 : goal.returns-then-count_loops-gt32
-returns-then-count_loops-gt32 c =
-    refuted (λ h. omega (arith, sheet_loops c.args.records.now h, c.count_loops.ensures, c.if-count_loops-gt32.true))
+pub returns-then-loop_count-gt32 : goal.returns-then-loop_count-gt32
+returns-then-loop_count-gt32 c =
+    refuted (λ h. omega (arith, sheet_loops c.args.records.now h, c.loop_count.ensures, c.if-loop_count-gt32.true))
 
 pub returns : goal.returns
 returns c =
     let rs = c.args.records.now in
     carried c.is_body.result c.is_body.ensures
-    (λ h. sheet_is c.args.records.now (omega arith) (omega arith) (omega (arith, c.count_loops.ensures)) h)
+    (λ h. sheet_is c.args.records.now (omega arith) (omega arith) (omega (arith, c.loop_count.ensures)) h)
     (λ h. sheet_body rs h)

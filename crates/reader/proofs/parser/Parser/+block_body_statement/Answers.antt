@@ -54,7 +54,7 @@ block-returns-in_err-follow t c =
     let f = c.file-index.ensures in
     let i = c.in_ok-source.source in
     let o = c.requires.block in
-    let w = inside c.args.level i c.args.kind a a₁ a₂ b o.1 (placed c.args.place c.heading.result) m.admitted m.begun m.memory m.kept m.pos (h.read o.0 o.1 o.2) h.begun h.memory h.kept f.begun f.loops f.filed f.kept f.pos in
+    let w = inside c.args.level i c.args.kind a a₁ a₂ b o.1 (placed c.args.place c.block.result) m.admitted m.begun m.memory m.kept m.pos (h.read o.0 o.1 o.2) h.begun h.memory h.kept f.begun f.loops f.filed f.kept f.pos in
     let p = err_from_is_err_and c.from_residual-in_err-follow.result c.from_residual-in_err-follow.ensures.1 in
     let r = c.in_err-follow.ensures in
     rw (p.1, p.2) (record {
@@ -74,7 +74,7 @@ block-returns-in_err-expect_end t c =
     let f = c.file-index.ensures in
     let i = c.in_ok-source.source in
     let o = c.requires.block in
-    let w = inside c.args.level i c.args.kind a a₁ a₂ b o.1 (placed c.args.place c.heading.result) m.admitted m.begun m.memory m.kept m.pos (h.read o.0 o.1 o.2) h.begun h.memory h.kept f.begun f.loops f.filed f.kept f.pos in
+    let w = inside c.args.level i c.args.kind a a₁ a₂ b o.1 (placed c.args.place c.block.result) m.admitted m.begun m.memory m.kept m.pos (h.read o.0 o.1 o.2) h.begun h.memory h.kept f.begun f.loops f.filed f.kept f.pos in
     let d = c.body.new.self in
     let p = err_from_is_err_and c.from_residual-in_err-expect_end.result c.from_residual-in_err-expect_end.ensures.1 in
     let r = c.in_ok-follow.ensures in
@@ -97,7 +97,7 @@ block-returns t c =
     let f = c.file-index.ensures in
     let i = c.in_ok-source.source in
     let o = c.requires.block in
-    let w = inside c.args.level i c.args.kind a a₁ a₂ b o.1 (placed c.args.place c.heading.result) m.admitted m.begun m.memory m.kept m.pos (h.read o.0 o.1 o.2) h.begun h.memory h.kept f.begun f.loops f.filed f.kept f.pos in
+    let w = inside c.args.level i c.args.kind a a₁ a₂ b o.1 (placed c.args.place c.block.result) m.admitted m.begun m.memory m.kept m.pos (h.read o.0 o.1 o.2) h.begun h.memory h.kept f.begun f.loops f.filed f.kept f.pos in
     let d = c.body.new.self in
     let z = c.amend.new.self in
     let r = c.in_ok-follow.ensures in
@@ -105,7 +105,7 @@ block-returns t c =
     let n = c.amend.ensures in
     let k = kept_then a b d w.kept r.kept in
     record {
-      read = block_done c.args.level c.args.place i c.args.kind a b w d (Unit {0}) c.in_ok-expect_end.field-0 (memory_of z) z.counts.statements z.counts.loops (pos_of z) n.begun.0 n.begun.1 (n.pos ∙ e.pos) (amended_same (memory_of z) (memory_of d) c.file-index.result a.counts.statements c.args.place c.heading-item.result (statement_of c.args.kind 0 i 0 d.counts.statements) (f.index ∙ (h.begun.0 ∙ m.begun)) c.heading-item.ensures n.amended) c.in_ok-follow.follow r.read e.closed;
+      read = block_done c.args.level c.args.place i c.args.kind a b w d (Unit {0}) c.in_ok-expect_end.field-0 (memory_of z) z.counts.statements z.counts.loops (pos_of z) n.begun.0 n.begun.1 (n.pos ∙ e.pos) (amended_same (memory_of z) (memory_of d) c.file-index.result a.counts.statements c.args.place c.block-item.result (statement_of c.args.kind 0 i 0 d.counts.statements) (f.index ∙ (h.begun.0 ∙ m.begun)) c.block-item.ensures n.amended) c.in_ok-follow.follow r.read e.closed;
       kept = record { text = n.kept.text ∙ (e.text ∙ k.text); room = n.kept.room ∙ k.room; loan = n.kept.loan ∙ k.loan };
     }
 
