@@ -1,6 +1,5 @@
 // What is said of a sheet that is in order.
 use crate::shown::Shown;
-use anyhow::anyhow;
 use reader::types::{Placed, Statement, ZERO_RECORD};
 use reader::{print, read};
 use std::io;
@@ -15,13 +14,9 @@ pub fn write_accepted(
 ) -> anyhow::Result<()> {
     write_counts(out, bytes, sheet)?;
     let mut page = [0; 16_384];
-    match print(sheet, &mut page) {
-        Ok(length) => {
-            write_printed(out, &page[0..length], sheet)?;
-            Ok(())
-        }
-        Err(refusal) => Err(anyhow!(refusal.words())),
-    }
+    let length = print(sheet, &mut page)?;
+    write_printed(out, &page[..length], sheet)?;
+    Ok(())
 }
 
 fn write_counts(out: &mut impl Write, bytes: usize, sheet: &[Placed<Statement>]) -> io::Result<()> {
@@ -72,19 +67,11 @@ fn write_printed(
 fn reads_as(text: &[u8], sheet: &[Placed<Statement>]) -> bool {
     let mut records = [ZERO_RECORD; 256];
     match read(text, &mut records) {
-        Ok(count) => same_statements(&records[0..count], sheet),
+        Ok(count) => same_statements(&records[..count], sheet),
         Err(_) => false,
     }
 }
 
 fn same_statements(left: &[Placed<Statement>], right: &[Placed<Statement>]) -> bool {
-    if left.len() != right.len() {
-        return false;
-    }
-    for (a, b) in left.iter().zip(right.iter()) {
-        if a.item != b.item {
-            return false;
-        }
-    }
-    true
+    left.len() == right.len() && left.iter().zip(right).all(|(a, b)| a.item == b.item)
 }

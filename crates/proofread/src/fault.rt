@@ -17,8 +17,7 @@ impl fmt::Display for Fault<'_> {
         let place = self.refused.place;
         let refusal = self.refused.item;
         let number = refusal.number();
-        let words = refusal.words();
-        writeln!(f, "refused {number} at {place}: {words}")?;
+        writeln!(f, "refused {number} at {place}: {refusal}")?;
         let word = word_at(self.text, place);
         let position = Position::of(self.text, place);
         let is_end = place >= self.text.len();

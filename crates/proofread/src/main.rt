@@ -27,7 +27,7 @@ fn main(rt: HostRuntime) -> anyhow::Result<()> {
 fn proofread(out: &mut impl Write, text: &[u8]) -> anyhow::Result<()> {
     let mut records = [ZERO_RECORD; 256];
     match read(text, &mut records) {
-        Ok(count) => write_accepted(out, text.len(), &records[0..count]),
+        Ok(count) => write_accepted(out, text.len(), &records[..count]),
         Err(refused) => {
             let fault = Fault { text, refused };
             write!(out, "{fault}")?;

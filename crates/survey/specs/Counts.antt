@@ -1,5 +1,5 @@
 -- What is counted in the records of a sheet.
-use Rattle.std.specs.Prelude.{◌≡◌, ℕ, suc, ◌+◌, ◌<◌, ◌≤◌, cond, ◌⊎◌, List, [], ◌∷◌, length, nat_le, nat_lt}
+use Rattle.std.specs.Prelude.{◌≡◌, ℕ, suc, ◌+◌, ◌<◌, ◌≤◌, cond, ◌⊎◌, Bool, ◌&&◌, List, [], ◌∷◌, length, nat_eq, nat_le, nat_lt}
 use Rattle.reader.specs.declared.types.Placed.{Placed}
 use Rattle.reader.specs.declared.types.Kind.{Kind}
 use Rattle.reader.specs.declared.types.Kind.TheVariants.{Zero, Plus, Minus, Loop, While}
@@ -19,6 +19,10 @@ block_count While = 1
 -- 1 for a LOOP or WHILE at index i whose end is above j, where i is at most j; 0 for others
 abbrev pub level_count : Statement → ℕ → ℕ → ℕ
 level_count s i j = cond (nat_le i j) (cond (nat_lt j s.end) (block_count s.kind) 0) 0
+
+-- whether the statement at index i is a LOOP or WHILE that is open at j
+abbrev pub is_open : Statement → ℕ → ℕ → Bool
+is_open s i j = nat_le i j && (nat_lt j s.end && nat_eq (block_count s.kind) 1)
 
 -- how many LOOPs and WHILEs at an index up to j have their end above j, in records the first of which has index i
 abbrev pub levels_from : ℕ → List (Placed Statement) → ℕ → ℕ
