@@ -147,3 +147,8 @@ module _ (text : List ℕ) (from mid : ℕ) (e : Placed Refusal) where
 
   pub behind-zero : Passes text from mid (number 0) → Halts text mid while_do e → Halts text from while_zero e
   behind-zero = behind while_zero while_do (number 0) leads_zero
+
+-- the register of a head was passed, and the next symbol is another than the word w
+pub head_refused : (x x' : Expect) (w : Symbol) (text t : List ℕ) (from mid i : ℕ) (e : Placed Refusal) → (Passes text from mid (register i) × (i ≤ 31) → Halts text mid x' e → Halts text from x e) → (Refuses (λ s. s ≡ w) text mid e → Halts text mid x' e)
+    → Passes text from mid (register i) × (i ≤ 31) → t ≡ text → Refuses (λ s. s ≡ w) t mid e → Halts text from x e
+head_refused x x' w text t from mid i e f g a same r = f a (g (moved (λ t. Refuses (λ s. s ≡ w) t mid e) same r))

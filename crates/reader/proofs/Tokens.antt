@@ -1,5 +1,6 @@
 -- Which token stands at a place of a text, and what is read there.
 use Rattle.std.proofs.Common.{◌≡◌, ℕ, suc, ◌+◌, ◌-◌, ◌<◌, ◌≤◌, false, T, List, [], ◌∷◌, ◌++◌, length, get_or, take, drop, Some, None, Ok, Err, codes, Option, Result, sym, refl, ap, ◌∙◌, subst, ⊎_elim, add-zero, arith, length-append, length-drop, length-take}
+use Rattle.std.specs.Prelude.{MatchResult, IsErrAnd}
 use Rattle.std.specs.Char.{is_ascii_alphanumeric}
 use Rattle.std.proofs.lemmas.List.{drop_more, drop_all, drop-drop, drop_at, take-append-drop, get_or-drop}
 use Rattle.std.proofs.str.Laws.{order}
@@ -131,6 +132,13 @@ module _ (text : List ℕ) (place : ℕ) where
   token_flawed token.Plus g f e = absurd (unsaid e)
   token_flawed token.Minus g f e = absurd (unsaid e)
   token_flawed token.Semicolon g f e = absurd (unsaid e)
+
+-- what a token says, where a refusal is told with its place
+pub told_placed : (place : ℕ) (t : Token) (k : Result Lexeme Refusal) (r : Result Lexeme (Placed Refusal)) → TokenTold t k → MatchResult k (λ x. r ≡ Ok x) (λ f. IsErrAnd r (λ e. e ≡ placed place f)) → MatchResult r (λ l. TokenTold t (Ok l)) (λ e. (e.place ≡ place) × TokenTold t (Err e.item))
+told_placed place t (Ok x) r h m = subst (λ r. MatchResult r (λ l. TokenTold t (Ok l)) (λ e. (e.place ≡ place) × TokenTold t (Err e.item))) (sym m) h
+told_placed place t (Err f) (Ok l) h m = absurd m
+told_placed place t (Err f) (Err e) h m =
+    (ap (λ (e : Placed Refusal). e.place) m, subst (λ f. TokenTold t (Err f)) (sym (ap (λ (e : Placed Refusal). e.item) m)) h)
 
 pub token_found : (text : List ℕ) (from : ℕ) (found : Option (Placed Token)) (t : Placed Token) → found ≡ Some t → TokenRead text from (Ok found) → TokenRead text from (Ok (Some t))
 token_found text from found t e r = subst (λ (f : Option (Placed Token)). TokenRead text from (Ok f)) e r

@@ -37,6 +37,14 @@ abbrev pub Required : List ℕ → ℕ → Result (Placed Lexeme) (Placed Refusa
 Required text from (Ok x) to = Between text from to (placed x.place (meant x.item) ∷ []) × Fine (meant x.item)
 Required text from (Err e) to = Refuses Anything text from e
 
+-- a symbol of which something is taken: `takes` says what a symbol gives
+abbrev pub Takes : {X : Type 0} → (Lexeme → Option X → Type 0) → Symbol → Type 0
+Takes takes s = (l : Lexeme) × (s ≡ meant l) × (takes l None → ⊥)
+
+pub data Picked {X : Type 0} (takes : Lexeme → Option X → Type 0) (text : List ℕ) (from : ℕ) : Result X (Placed Refusal) → ℕ → Type 0 where
+  picked : {x : X} {l : Lexeme} {to : ℕ} → takes l (Some x) → Passes text from to (meant l) → Fine (meant l) → Picked takes text from (Ok x) to
+  not_picked : {e : Placed Refusal} {to : ℕ} → Refuses (Takes takes) text from e → Picked takes text from (Err e) to
+
 -- the wanted symbol
 abbrev pub Expected : {X : Type 0} → Lexeme → List ℕ → ℕ → Result X (Placed Refusal) → ℕ → Type 0
 Expected l text from (Ok u) to = Passes text from to (meant l) × Fine (meant l)

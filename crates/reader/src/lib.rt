@@ -4,6 +4,7 @@
 mod check;
 mod cursor;
 pub mod laws;
+mod lexeme;
 mod lexer;
 mod parser;
 mod printer;

@@ -2,7 +2,7 @@ ghost use Rattle.std.specs.Prelude.{◌≡◌, ℕ, ◌+◌, ◌<◌, ◌≤◌,
 ghost use Rattle.reader.specs.declared.types.Refusal.TheVariants.{OutOfOrder};
 ghost use Rattle.reader.specs.Symbols.{placed};
 ghost use Rattle.reader.specs.Lexing.{LexemeRead};
-ghost use Rattle.reader.specs.Expecting.{Required, Expected, RegisterExpected, NumberExpected, SignExpected, Closed, Over, AssignmentRead, LoopHeadRead, WhileHeadRead};
+ghost use Rattle.reader.specs.Expecting.{Required, Picked, Expected, RegisterExpected, NumberExpected, SignExpected, Closed, Over, AssignmentRead, LoopHeadRead, WhileHeadRead};
 
 use super::Cursor;
 use crate::lexer::{next_token, token_lexeme, width};
@@ -21,19 +21,13 @@ impl<'a> Cursor<'a> {
         ensures read { LexemeRead self.old.text.now self.old.pos result self.new.pos }
         ensures text { self.new.text.now ≡ self.old.text.now }
     {
-        let found = match next_token(self.text, self.pos) {
-            Ok(found) => found,
-            Err(fault) => return Err(fault),
-        };
-        let Some(token) = found else {
+        let Some(token) = next_token(self.text, self.pos)? else {
             return Ok(None);
         };
         let place = token.place;
         self.pos = place + width(token.item);
-        match token_lexeme(token.item) {
-            Ok(item) => Ok(Some(Placed { place, item })),
-            Err(item) => Err(Placed { place, item }),
-        }
+        let item = token_lexeme(token.item).map_err(|item| Placed { place, item })?;
+        Ok(Some(Placed { place, item }))
     }
 
     // The next symbol; the text's end is out of order.
@@ -41,13 +35,18 @@ impl<'a> Cursor<'a> {
         ensures read { Required self.old.text.now self.old.pos result self.new.pos }
         ensures text { self.new.text.now ≡ self.old.text.now }
     {
-        match self.next() {
-            Ok(found) => match found {
-                Some(found) => Ok(found),
-                None => Err(out_of_order(self.text.len())),
-            },
-            Err(fault) => Err(fault),
-        }
+        let found = self.next()?;
+        found.ok_or(out_of_order(self.text.len()))
+    }
+
+    // Passes a symbol of which `pick` takes something; any other is out of order.
+    fn pick<T, F: FnOnce(Lexeme) -> Option<T>>(&mut self, pick: F) -> Result<T, Placed<Refusal>>
+        requires { F.IsAlwaysCallable pick }
+        ensures read { Picked (F.post pick) self.old.text.now self.old.pos result self.new.pos }
+        ensures text { self.new.text.now ≡ self.old.text.now }
+    {
+        let found = self.require()?;
+        pick(found.item).ok_or(out_of_order(found.place))
     }
 
     // Passes the wanted symbol.
@@ -55,14 +54,7 @@ impl<'a> Cursor<'a> {
         ensures read { Expected wanted self.old.text.now self.old.pos result self.new.pos }
         ensures text { self.new.text.now ≡ self.old.text.now }
     {
-        match self.require() {
-            Ok(found) => if found.item == wanted {
-                Ok(())
-            } else {
-                Err(out_of_order(found.place))
-            },
-            Err(fault) => Err(fault),
-        }
+        self.pick(|found| (found == wanted).then_some(()))
     }
 
     // Passes a register.
@@ -70,13 +62,7 @@ impl<'a> Cursor<'a> {
         ensures read { RegisterExpected self.old.text.now self.old.pos result self.new.pos }
         ensures text { self.new.text.now ≡ self.old.text.now }
     {
-        match self.require() {
-            Ok(found) => match found.item {
-                Lexeme::Register(i) => Ok(i),
-                _ => Err(out_of_order(found.place)),
-            },
-            Err(fault) => Err(fault),
-        }
+        self.pick(Lexeme::register)
     }
 
     // Passes a number.
@@ -84,13 +70,7 @@ impl<'a> Cursor<'a> {
         ensures read { NumberExpected self.old.text.now self.old.pos result self.new.pos }
         ensures text { self.new.text.now ≡ self.old.text.now }
     {
-        match self.require() {
-            Ok(found) => match found.item {
-                Lexeme::Number(n) => Ok(n),
-                _ => Err(out_of_order(found.place)),
-            },
-            Err(fault) => Err(fault),
-        }
+        self.pick(Lexeme::number)
     }
 
     // Passes the sign of an assignment, which tells its kind.
@@ -98,17 +78,11 @@ impl<'a> Cursor<'a> {
         ensures read { SignExpected self.old.text.now self.old.pos result self.new.pos }
         ensures text { self.new.text.now ≡ self.old.text.now }
     {
-        match self.require() {
-            Ok(found) => match found.item {
-                Lexeme::Plus => Ok(Kind::Plus),
-                Lexeme::Minus => Ok(Kind::Minus),
-                _ => Err(out_of_order(found.place)),
-            },
-            Err(fault) => Err(fault),
-        }
+        self.pick(Lexeme::sign)
     }
 
-    // Whether what follows a body is the word END.
+    // Whether what follows a body is the word END. It takes `&mut self`, since the borrow checker covers no call by `&` on
+    // a field that holds a reference.
     pub(crate) fn expect_end(
         &mut self,
         follow: Option<Placed<Lexeme>>,
@@ -117,16 +91,15 @@ impl<'a> Cursor<'a> {
         ensures text { self.new.text.now ≡ self.old.text.now }
         ensures pos { self.new.pos ≡ self.old.pos }
     {
-        match follow {
-            Some(found) => match found.item {
-                Lexeme::End => Ok(()),
-                _ => Err(out_of_order(found.place)),
-            },
-            None => Err(out_of_order(self.text.len())),
+        let found = follow.ok_or(out_of_order(self.text.len()))?;
+        if found.item == Lexeme::End {
+            Ok(())
+        } else {
+            Err(out_of_order(found.place))
         }
     }
 
-    // Whether nothing follows the whole sheet; gives the place of the text's end.
+    // Whether nothing follows the whole sheet; gives the place of the text's end. It takes `&mut self` as `expect_end` does.
     pub(crate) fn expect_nothing(
         &mut self,
         follow: Option<Placed<Lexeme>>,

@@ -1,8 +1,9 @@
-use Rattle.std.proofs.Common.{◌≡◌, ◌∙◌}
+use Rattle.std.proofs.Common.{◌∙◌}
 use Rattle.std.proofs.lemmas.Result.{err_from_is_err_and}
 use Rattle.reader.specs.Symbols.{DO}
-use Rattle.reader.specs.Expecting.{Refuses, Passes}
-use Rattle.reader.proofs.Halting.{moved, no_loop_register, no_loop_do, behind_loop_register}
+use Rattle.reader.specs.Machine.{loop_register, loop_do}
+use Rattle.reader.specs.Expecting.{Passes}
+use Rattle.reader.proofs.Halting.{moved, head_refused, no_loop_register, no_loop_do, behind_loop_register}
 use Rattle.reader.proofs.cursor.Cursor.loop_head.Goals as goal
 
 pub returns-in_err-source : goal.returns-in_err-source
@@ -15,12 +16,14 @@ pub returns-in_err-expect : goal.returns-in_err-expect
 returns-in_err-expect c =
     let p = err_from_is_err_and c.from_residual-in_err-expect.result c.from_residual-in_err-expect.ensures.1 in
     let text = c.args.self.now.text.now in
+    let from = c.args.self.now.pos in
+    let mid = c.expect_register.new.self.pos in
+    let i = c.in_ok-source.source in
     let e = c.in_err-expect.field-0.0 in
     let a = c.in_ok-source.ensures in
     let b = c.in_err-expect.ensures in
-    let at1 = c.expect_register.new.self.pos in
     rw (p.1, p.2) (record {
-      read = behind_loop_register text c.args.self.now.pos at1 e c.in_ok-source.source a.read (no_loop_do text at1 e (moved (λ t. Refuses (λ s. s ≡ DO) t at1 e) a.text b.read));
+      read = head_refused loop_register loop_do DO text c.expect_register.new.self.text.now from mid i e (behind_loop_register text from mid e i) (no_loop_do text mid e) a.read a.text b.read;
       text = ◌∙◌ {a = c.expect.new.self.text.now} b.text a.text;
     })
 
