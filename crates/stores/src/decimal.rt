@@ -114,6 +114,8 @@ impl<'a> Store for DecimalStore<'a> {
 
     ghost limit = { λ _. 999999 };
 
+    ghost sound = { λ s. s.fits };
+
     fn count(&self) -> usize {
         count_in(self.bytes.len())
     }
@@ -132,7 +134,6 @@ impl<'a> Store for DecimalStore<'a> {
 
     // The clauses past those of every store say that the memory is the same, and which of its bytes change.
     fn write(&mut self, i: usize, v: u32) -> Result<(), Refusal>
-        ensures same { ◌≡◌ {A = ℕ} 999999 999999 }
         ensures answer { result ≡ write_of (decimals self.old.bytes.now) 999999 i v }
         ensures written { decimals self.new.bytes.now ≡ written_of (decimals self.old.bytes.now) 999999 i v }
         ensures memory { self.new.bytes.now ≡ bytes_written self.old.bytes.now i v }

@@ -43,22 +43,11 @@ impl<'a> FlatStore<'a> {
         let FlatStore { cells: _ } = self;
     }
 
-    // Number i.
-    fn get(&self, i: usize) -> u32
-        requires { i < length (flats self.now.cells.now) }
-        ensures { result ≡ slice_index (flats self.now.cells.now) i }
+    // The numbers.
+    fn numbers(&self) -> &[u32]
+        ensures { result.now ≡ flats self.now.cells.now }
     {
-        self.cells[i]
-    }
-
-    // Puts v at i.
-    fn put(&mut self, i: usize, v: u32)
-        requires { i < length (flats self.old.cells.now) }
-        ensures numbers { flats self.new.cells.now ≡ slice_set (flats self.old.cells.now) i v }
-        ensures rest { spare self.new.cells.now ≡ spare self.old.cells.now }
-        ensures lent { self.new.cells.ghost_name ≡ self.old.cells.ghost_name }
-    {
-        self.cells[i] = v;
+        &self.cells[..counted(self.cells.len())]
     }
 }
 
@@ -67,35 +56,31 @@ impl<'a> Store for FlatStore<'a> {
 
     ghost limit = { λ _. 4294967295 };
 
+    ghost sound = { λ s. s.fits };
+
     fn count(&self) -> usize {
-        counted(self.cells.len())
+        self.numbers().len()
     }
 
     fn top(&self) -> u32 {
-        4_294_967_295
+        u32::MAX
     }
 
     fn read(&self, i: usize) -> Result<u32, Refusal> {
-        if i < self.count() {
-            Ok(self.get(i))
-        } else {
-            Err(Refusal::NoRegister)
-        }
+        self.numbers().get(i).copied().ok_or(Refusal::NoRegister)
     }
 
     // The clauses past those of every store say that the memory is the same, and that its other cells stay.
     fn write(&mut self, i: usize, v: u32) -> Result<(), Refusal>
-        ensures same { ◌≡◌ {A = ℕ} 4294967295 4294967295 }
         ensures answer { result ≡ write_of (flats self.old.cells.now) 4294967295 i v }
         ensures written { flats self.new.cells.now ≡ written_of (flats self.old.cells.now) 4294967295 i v }
         ensures rest { spare self.new.cells.now ≡ spare self.old.cells.now }
         ensures lent { self.new.cells.ghost_name ≡ self.old.cells.ghost_name }
     {
-        if i < self.count() {
-            self.put(i, v);
-            Ok(())
-        } else {
-            Err(Refusal::NoRegister)
+        if i >= self.count() {
+            return Err(Refusal::NoRegister);
         }
+        self.cells[i] = v;
+        Ok(())
     }
 }
