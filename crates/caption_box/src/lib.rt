@@ -2,6 +2,7 @@
 #![tactic(auto)]
 
 mod access;
+mod guards;
 pub mod laws;
 pub mod rehearsal;
 mod seating;

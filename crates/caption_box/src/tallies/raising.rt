@@ -1,5 +1,4 @@
 ghost use Rattle.std.specs.Prelude.{◌≡◌, ℕ, suc, ◌<◌, Bool, true, false};
-ghost use Rattle.reader.specs.WrittenRun.{no_counts};
 ghost use Rattle.caption_box.specs.Tallies.{counts_of, counted, largest_of, tally_of};
 
 use super::Tallies;
@@ -7,20 +6,6 @@ use crate::types::Tally;
 use translator::types::Role;
 
 impl Tallies {
-    // Clear tallies.
-    pub(crate) fn clear() -> Tallies
-        ensures steps { result.steps ≡ 0 }
-        ensures counts { counts_of result ≡ no_counts }
-    {
-        Tallies {
-            steps: 0,
-            written: 0,
-            entered: 0,
-            rounds: 0,
-            whiles: 0,
-        }
-    }
-
     // The largest tally, which is that of the box steps in every show that was started.
     pub(crate) fn largest(&self) -> u64
         ensures { result ≡ largest_of self.now }
