@@ -7,6 +7,5 @@ pub mod laws;
 pub mod rehearsal;
 mod seating;
 pub mod show;
-mod state;
 pub mod tallies;
 pub mod types;

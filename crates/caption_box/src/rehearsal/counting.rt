@@ -29,8 +29,7 @@ impl WrittenTallies {
     {
         match kind {
             Kind::Zero => {}
-            Kind::Plus => self.written += 1,
-            Kind::Minus => self.written += 1,
+            Kind::Plus | Kind::Minus => self.written += 1,
             Kind::Loop => {
                 self.written += 1;
                 self.entered = self.entered.saturating_add(1);

@@ -37,7 +37,8 @@ impl<'a> Rehearsal<'a> {
         state
     }
 
-    // Written steps until k are done or the next cannot be done.
+    // Written steps until k are done or the next cannot be done. The loop is that of a show: one over closures would lend
+    // rehearsal and store to the step and to the look at once.
     pub(super) fn go<S: Store>(&mut self, store: &mut S, k: u32) -> Ticked
         requires { self.old.tallies.written + k ≤ 1099511627776 }
         ensures same { self.new.records ≡ self.old.records }

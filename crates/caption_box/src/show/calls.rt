@@ -49,6 +49,7 @@ impl<'c> Show<'c> {
         }
     }
 
+    // A call with several returns has this private part, so that what follows from `exact` is shown once.
     fn tick_exactly<S: Store>(&mut self, store: &mut S, k: u32) -> Result<Ticked, Refusal>
         ensures code { self.new.sealed ≡ self.old.sealed }
         ensures exact { outcome result (scene_of self.new (S.Store.numbers store.new) (S.Store.limit store.new)) ≡ ticks (scene_of self.old (S.Store.numbers store.old) (S.Store.limit store.old)) k }

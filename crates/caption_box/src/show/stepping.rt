@@ -48,7 +48,8 @@ pub(super) fn fate<S: Store>(operation: Operation, n: usize, size: usize, store:
     }
 }
 
-// Where an operation leads, as an index, and whether it is a test that found another number than 0.
+// Where an operation leads, as an index, and whether it is a test that found another number than 0. The one does not tell
+// the other: a jump may lead to the next instruction too.
 #[derive(Clone, Copy)]
 pub(super) struct Moved {
     pub(super) next: usize,
