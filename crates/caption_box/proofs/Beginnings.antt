@@ -1,5 +1,5 @@
 -- The beginning of a rehearsal: what start and rewind make of a seating.
-use Rattle.std.proofs.Common.{◌≡◌, ℕ, Bool, true, false, cond, ltb, List, length, Ok, Err, Result, sym, refl, ap, ◌∙◌, subst, inr, arith}
+use Rattle.std.proofs.Common.{◌≡◌, ℕ, Bool, true, false, cond, ltb, List, length, Ok, Err, Result, MatchResult, sym, refl, ap, ◌∙◌, subst, inr, arith}
 use Rattle.reader.specs.declared.types.Refusal.{Refusal}
 use Rattle.reader.specs.declared.types.Refusal.TheVariants.{SmallStore, ManyInputs, OverTop}
 use Rattle.reader.specs.Sheet.{Sheet}
@@ -12,7 +12,7 @@ use Rattle.caption_box.specs.Calls.{seats, seated}
 use Rattle.caption_box.specs.Rests.{Recs, position_of, rest_in, rest_of, Stands}
 use Rattle.caption_box.specs.WrittenSteps.{Counted}
 use Rattle.caption_box.specs.WrittenCalls.{WrittenScene, written_scene, WrittenOutcome, written_outcome, written_beginning, written_rewinds}
-use Rattle.caption_box.specs.Rehearsals.{written_counts, records_of, whole_of, written_scene_of, Rehearsed, WrittenStarted, WrittenUnstarted}
+use Rattle.caption_box.specs.Rehearsals.{AtFirst, written_counts, records_of, whole_of, written_scene_of, Rehearsed, WrittenStarted, WrittenUnstarted}
 use Rattle.caption_box.proofs.Levels.{begins}
 use Rattle.caption_box.proofs.Seats.{seated_done, seated_kept}
 
@@ -46,9 +46,9 @@ none-counted : (n : Counts) → n ≡ no_counts → Counted n
 none-counted n e = subst Counted (sym e) (record { steps = omega arith; entered = omega arith; whiles = omega arith; rounds = omega arith })
 
 -- before the first statement, with clear tallies, on numbers that were seated with n registers
-module _ (s : Rehearsal) (at_first : s.position.at ≡ 0) (no-level : s.position.depth ≡ 0) (eight : length s.position.levels ≡ 8) (clear : written_counts s.tallies ≡ no_counts) where
+module _ (s : Rehearsal) (first : AtFirst s) where
   position_is : s.position ≡ position_of 0 0 s.position.levels
-  position_is i = position_of (at_first i) (no-level i) s.position.levels
+  position_is i = position_of (first.index i) (first.depth i) s.position.levels
 
   rest_is : rest_of (records_of s) s.position ≡ whole_of (records_of s)
   unfolding rest_in
@@ -58,34 +58,45 @@ module _ (s : Rehearsal) (at_first : s.position.at ≡ 0) (no-level : s.position
   first_rehearsed h =
       record {
         sheet = h;
-        stands = subst (Stands (records_of s)) (sym position_is) (begins (records_of s) h s.position.levels eight).0;
-        counted = none-counted (written_counts s.tallies) clear;
+        stands = subst (Stands (records_of s)) (sym position_is) (begins (records_of s) h s.position.levels first.levels).0;
+        counted = none-counted (written_counts s.tallies) first.clear;
       }
 
-  module _ (top top' : ℕ) (ν ν' xs : List ℕ) (r : Result (Unit {0}) Refusal) (ok : r ≡ Ok tt) (er : r ≡ seats 32 top ν xs) (en : ν' ≡ seated 32 top ν xs) (et : top' ≡ top) where
+  module _ (top top' : ℕ) (ν ν' xs : List ℕ) (ok : seats 32 top ν xs ≡ Ok tt) (en : ν' ≡ seated 32 top ν xs) (et : top' ≡ top) where
     begun : written_scene_of s ν' top' ≡ written_scene (whole_of (records_of s)) top (written_beginning (whole_of (records_of s)) xs ν)
-    begun = let en' = en ∙ seated_done 32 top ν xs (sym er ∙ ok) in λ i. written_scene (whole_of (records_of s)) (et i) (running (en' i) (rest_is i) (clear i))
+    begun = let en' = en ∙ seated_done 32 top ν xs ok in λ i. written_scene (whole_of (records_of s)) (et i) (running (en' i) (rest_is i) (first.clear i))
 
     pub rehearsal_rewound : (s₀ : Rehearsal) → records_of s ≡ records_of s₀ → written_outcome (Ok tt) (written_scene_of s ν' top') ≡ written_rewinds (written_scene_of s₀ ν top) xs
     rehearsal_rewound s₀ same =
         ap (written_outcome (Ok tt)) (begun ∙ ap (λ (rs : Recs). written_scene (whole_of rs) top (written_beginning (whole_of rs) xs ν)) same)
-        ∙ sym (rewinds_done (written_scene_of s₀ ν top) xs (sym er ∙ ok))
+        ∙ sym (rewinds_done (written_scene_of s₀ ν top) xs ok)
 
     pub rehearsal_started : IsSheet (records_of s) → WrittenStarted (records_of s) top ν xs s (written_scene_of s ν' top')
     rehearsal_started h =
         record {
           rehearsed = first_rehearsed h;
-          seated = sym er ∙ ok;
+          seated = ok;
           scene = λ g. begun ∙ ap (λ (p : Sheet). written_scene p top (written_beginning p xs ν)) (sheet_span (records_of s) g);
         }
 
 -- a seating that is refused
-module _ (top top' : ℕ) (ν ν' xs : List ℕ) (r : Result (Unit {0}) Refusal) (f : Refusal) (bad : r ≡ Err f) (er : r ≡ seats 32 top ν xs) (en : ν' ≡ seated 32 top ν xs) (et : top' ≡ top) where
+module _ (top top' : ℕ) (ν ν' xs : List ℕ) (f : Refusal) (bad : seats 32 top ν xs ≡ Err f) (en : ν' ≡ seated 32 top ν xs) (et : top' ≡ top) where
   kept : ν' ≡ ν
-  kept = en ∙ seated_kept 32 top ν xs f (sym er ∙ bad)
+  kept = en ∙ seated_kept 32 top ν xs f bad
 
-  pub rehearsal_unrewound : (s : Rehearsal) → written_outcome {A = Unit {0}} (Err f) (written_scene_of s ν' top') ≡ written_rewinds (written_scene_of s ν top) xs
-  rehearsal_unrewound s = (λ i. written_outcome (Err f) (written_scene_of s (kept i) (et i))) ∙ sym (rewinds_kept (written_scene_of s ν top) xs f (sym er ∙ bad))
+  pub rehearsal_unrewound : (r : Result (Unit {0}) Refusal) → r ≡ Err f → (s : Rehearsal) → written_outcome r (written_scene_of s ν' top') ≡ written_rewinds (written_scene_of s ν top) xs
+  rehearsal_unrewound r e s = (λ i. written_outcome (e i) (written_scene_of s (kept i) (et i))) ∙ sym (rewinds_kept (written_scene_of s ν top) xs f bad)
 
   pub rehearsal_unstarted : (rs : Recs) → IsSheet rs → WrittenUnstarted rs top ν xs f ν'
-  rehearsal_unstarted rs h = record { refused = inr (h, sym er ∙ bad); numbers = kept }
+  rehearsal_unstarted rs h = record { refused = inr (h, bad); numbers = kept }
+
+-- what a start comes to, by the rehearsal at its beginning or the refusal
+pub started_told : (rs : Recs) (top top' : ℕ) (ν ν' xs : List ℕ) (b : Result Rehearsal Refusal) (P : Rehearsal → Type 0)
+    → ((s : Rehearsal) → P s → records_of s ≡ rs)
+    → MatchResult b (λ s. P s × AtFirst s × (seats 32 top ν xs ≡ Ok tt)) (λ e. seats 32 top ν xs ≡ Err e)
+    → ν' ≡ seated 32 top ν xs → top' ≡ top → IsSheet rs
+    → MatchResult b (λ s. WrittenStarted rs top ν xs s (written_scene_of s ν' top')) (λ e. WrittenUnstarted rs top ν xs e ν')
+started_told rs top top' ν ν' xs (Ok s) P same (p, first, ok) en et h =
+    subst (λ (l : Recs). WrittenStarted l top ν xs s (written_scene_of s ν' top')) (same s p)
+    (rehearsal_started s first top top' ν ν' xs ok en et (subst IsSheet (sym (same s p)) h))
+started_told rs top top' ν ν' xs (Err e) P same bad en et h = rehearsal_unstarted top top' ν ν' xs e bad en et rs h

@@ -1,5 +1,5 @@
 -- What the loop of a tick keeps, and what it comes to.
-use Rattle.std.proofs.Common.{◌≡◌, ℕ, zero, suc, ◌+◌, ◌<◌, ◌≤◌, length, sym, refl, ap, ◌∙◌, add-zero, arith}
+use Rattle.std.proofs.Common.{◌≡◌, ℕ, zero, suc, ◌+◌, ◌<◌, ◌≤◌, sym, refl, ap, ◌∙◌, add-zero, arith}
 use Rattle.reader.specs.Steps.{Next, went, waits, ended, unfit, go_on, count_on, many, many_done}
 use Rattle.translator.specs.JumpCode.{Box}
 use Rattle.caption_box.specs.declared.types.State.{State}
@@ -11,15 +11,13 @@ use Rattle.caption_box.proofs.Steps.{step_grows, grows_largest, grows_even}
 -- after n steps of a tick the show, which began at s₀, stands at s
 pub record Going (g₀ : Setting) (s₀ : Box) (n : ℕ) (g : Setting) (s : Box) : Type 0 where
   pub same : g ≡ g₀
-  pub room : g₀.need ≤ length s.registers
   pub tallied : largest_tally s ≤ largest_tally s₀ + n
   pub ran : Ran (step g₀) s₀ n s
 
-pub going_none : (g : Setting) (s : Box) → g.need ≤ length s.registers → Going g s 0 g s
-going_none g s room =
+pub going_none : (g : Setting) (s : Box) → Going g s 0 g s
+going_none g s =
     record {
       same = refl;
-      room = room;
       tallied = omega arith;
       ran = ran_none (step g) s;
     }
@@ -33,7 +31,6 @@ going_more g₀ s₀ n g s g' t o h eg eo et time =
     let grown = step_grows g s t did in
     record {
       same = eg ∙ h.same;
-      room = omega (arith, h.room, grown.long);
       tallied = omega (arith, h.tallied, grows_largest s t grown);
       ran = ran_more (step g₀) s₀ n s t h.ran here;
     }

@@ -1,5 +1,5 @@
 -- What the loop of a rehearsal's tick keeps, and what it comes to.
-use Rattle.std.proofs.Common.{◌≡◌, ℕ, suc, ◌+◌, ◌<◌, ◌≤◌, List, length, sym, refl, ap, ◌∙◌, arith}
+use Rattle.std.proofs.Common.{◌≡◌, ℕ, suc, ◌+◌, ◌<◌, ◌≤◌, List, sym, refl, ap, ◌∙◌, arith}
 use Rattle.reader.specs.Steps.{went}
 use Rattle.reader.specs.WrittenRun.{WrittenRun, written_step}
 use Rattle.caption_box.specs.declared.types.State.{State}
@@ -13,17 +13,15 @@ use Rattle.caption_box.proofs.ManySteps.{went_on, stayed, Ran, ran_none, ran_mor
 pub record Rehearsing (top₀ : ℕ) (s₀ : Rehearsal) (ν₀ : List ℕ) (n top : ℕ) (s : Rehearsal) (ν : List ℕ) : Type 0 where
   pub same : s.records ≡ s₀.records
   pub limit : top ≡ top₀
-  pub room : 32 ≤ length ν
   pub most : s.tallies.written ≤ s₀.tallies.written + n
   pub kept : Rehearsed s₀ → Rehearsed s
   pub ran : Rehearsed s₀ → Ran (written_step top₀) (run_of s₀ ν₀) n (run_of s ν)
 
-pub rehearsing_none : (top : ℕ) (s : Rehearsal) (ν : List ℕ) → 32 ≤ length ν → Rehearsing top s ν 0 top s ν
-rehearsing_none top s ν room =
+pub rehearsing_none : (top : ℕ) (s : Rehearsal) (ν : List ℕ) → Rehearsing top s ν 0 top s ν
+rehearsing_none top s ν =
     record {
       same = refl;
       limit = refl;
-      room = room;
       most = omega arith;
       kept = λ h. h;
       ran = λ h. ran_none (written_step top) (run_of s ν);
@@ -31,13 +29,12 @@ rehearsing_none top s ν room =
 
 module _ (top₀ : ℕ) (s₀ : Rehearsal) (ν₀ : List ℕ) (n top : ℕ) (s : Rehearsal) (ν : List ℕ) (g : Rehearsing top₀ s₀ ν₀ n top s ν) where
   -- one step more
-  pub rehearsing_more : (o : State) (top' : ℕ) (t : Rehearsal) (ν' : List ℕ) → o ≡ Time → t.records ≡ s.records → top' ≡ top → 32 ≤ length ν'
+  pub rehearsing_more : (o : State) (top' : ℕ) (t : Rehearsal) (ν' : List ℕ) → o ≡ Time → t.records ≡ s.records → top' ≡ top
       → t.tallies.written ≤ suc s.tallies.written → (Rehearsed s → Stepped top s ν o t ν') → Rehearsing top₀ s₀ ν₀ (n + 1) top' t ν'
-  rehearsing_more o top' t ν' time same limit room most step =
+  rehearsing_more o top' t ν' time same limit most step =
       record {
         same = same ∙ g.same;
         limit = limit ∙ g.limit;
-        room = room;
         most = omega (arith, g.most);
         kept = λ h. (step (g.kept h)).kept;
         ran = λ h.

@@ -1,6 +1,9 @@
 -- Seating a run: the scan of the inputs, the filling of the registers, and what start and rewind of a show make of it.
-use Rattle.std.proofs.Common.{◌≡◌, ℕ, zero, suc, ◌+◌, ◌-◌, ◌<◌, ◌≤◌, Bool, true, false, cond, ◌&&◌, T, ltb, leb, List, [], ◌∷◌, ◌++◌, length, get_or, take, drop, set, replicate, Ok, Err, Result, sym, refl, ap, ◌∙◌, subst, zero-le, arith, length-set, take-append-drop, drop-set-lt}
-use Rattle.std.proofs.lemmas.List.{at_drop_more, at_drop_all, take_more, take_more_set, drop-drop, get_or-take, take_all, get_or_past}
+use Rattle.std.proofs.Common.{◌≡◌, ℕ, zero, suc, ◌+◌, ◌<◌, ◌≤◌, Bool, true, false, cond, T, ltb, List, [], ◌∷◌, ◌++◌, length, get_or, take, drop, set, replicate, Ok, Err, Result, sym, refl, ap, ◌∙◌, subst, zero-le, arith, length-set, take-append-drop, drop-set-lt}
+use Rattle.std.specs.List.{All}
+use Rattle.std.proofs.lemmas.Bool.{le-leb}
+use Rattle.std.proofs.lemmas.List.Elements.{All-head, All-tail, All-from_get_or}
+use Rattle.std.proofs.lemmas.List.{take_more, take_more_set, drop-drop, get_or-take, take_all}
 use Rattle.reader.specs.declared.types.Refusal.{Refusal}
 use Rattle.reader.specs.declared.types.Refusal.TheVariants.{SmallStore, ManyInputs, OverTop}
 use Rattle.reader.specs.WrittenRun.{Counts, no_counts}
@@ -8,21 +11,19 @@ use Rattle.caption_box.specs.Seats.{all_below, entered, input_at}
 use Rattle.caption_box.specs.Calls.{Setting, scene, seats, seated, Started, Unstarted}
 use Rattle.caption_box.proofs.Low.{low_cons, low_tested, start_length}
 
-pub scan_at : (top : ℕ) (xs : List ℕ) (i : ℕ) (b : Bool) → i < length xs → leb (get_or xs i 0) top ≡ b
-    → all_below top (drop i xs) ≡ b && (all_below top (drop (i + 1) xs))
-scan_at top xs i b h e =
-    let d : all_below top (drop i xs) ≡ leb (get_or xs i 0) top && (all_below top (drop (i + 1) xs)) = at_drop_more (all_below top) xs i 0 h in
-    d ∙ ap (λ (x : Bool). x && (all_below top (drop (i + 1) xs))) e
+all_below_all : (top : ℕ) (xs : List ℕ) → All (λ v. v ≤ top) xs → all_below top xs ≡ true
+all_below_all top [] h = refl
+all_below_all top (x ∷ xs) h = rw (le-leb x top (All-head (λ v. v ≤ top) x xs h)) (all_below_all top xs (All-tail (λ v. v ≤ top) x xs h))
 
-pub scan_all : (top : ℕ) (xs : List ℕ) (i : ℕ) → length xs ≤ i → all_below top (drop i xs) ≡ true
-scan_all top xs i h = at_drop_all (all_below top) xs i h
-
-pub input_in : (xs : List ℕ) (i : ℕ) → 1 ≤ i → get_or xs (i - 1) 0 ≡ input_at xs i
-input_in xs zero h = absurd (omega arith)
-input_in xs (suc i) h = let e : suc i - 1 ≡ i = omega arith in ap (λ (x : ℕ). get_or xs x 0) e
-
-pub input_past : (xs : List ℕ) (i : ℕ) → length xs < i → 0 ≡ input_at xs i
-input_past xs i h = sym (get_or_past (0 ∷ xs) i 0 (omega arith))
+-- a test that is true just where no number is above the top
+pub below_told : (top : ℕ) (xs : List ℕ) (b : Bool) → (b ≡ true → All (λ v. v ≤ top) xs) → (All (λ v. v ≤ top) xs → b ≡ true) → b ≡ all_below top xs
+below_told top xs b to from = go b (all_below top xs) refl to from
+  where
+    go : (b a : Bool) → all_below top xs ≡ a → (b ≡ true → All (λ v. v ≤ top) xs) → (All (λ v. v ≤ top) xs → b ≡ true) → b ≡ a
+    go true true e to from = refl
+    go false false e to from = refl
+    go true false e to from = sym (all_below_all top xs (to refl)) ∙ e
+    go false true e to from = from (All-from_get_or (λ v. v ≤ top) xs 0 (λ k h. low_tested top xs (subst T (sym e) tt) k))
 
 pub input_low : (top : ℕ) (xs : List ℕ) (i : ℕ) → all_below top xs ≡ true → input_at xs i ≤ top
 input_low top xs i e = low_cons top 0 xs zero-le (low_tested top xs (subst T (sym e) tt)) i

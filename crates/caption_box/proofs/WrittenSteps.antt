@@ -1,5 +1,5 @@
 -- The pieces of a written step make the step of the written run.
-use Rattle.std.proofs.Common.{◌≡◌, ℕ, zero, suc, ◌+◌, ◌<◌, ◌≤◌, Bool, true, false, cond, leb, List, length, sym, refl, ap, ◌∙◌, subst, ⊎_elim, arith, length-set}
+use Rattle.std.proofs.Common.{◌≡◌, ℕ, zero, suc, ◌+◌, ◌<◌, ◌≤◌, Bool, true, false, cond, leb, List, length, sym, refl, ap, ◌∙◌, subst, ⊎_elim, arith}
 use Rattle.std.proofs.lemmas.Bool.{cases_lt, lt-ltb}
 use Rattle.reader.specs.declared.types.Statement.{Statement}
 use Rattle.reader.specs.declared.types.Kind.{Kind}
@@ -103,13 +103,6 @@ went_here rs h p w top ν n e =
     ap (λ (x : Sheet). written_of top ν n x) (rest_held rs h p w)
     ∙ kind_went (at rs p.at).kind top ν n (at rs p.at) (span rs (suc p.at) (at rs p.at).end) (rest_behind rs p)
     (sym (fit_fate top ν (at rs p.at) f.target f.source) ∙ e)
-
-pub stored-length : (k : Kind) (ν : List ℕ) (s : Statement) → length (written_stored k ν s) ≡ length ν
-stored-length Zero ν s = refl
-stored-length Plus ν s = length-set ν s.target _
-stored-length Minus ν s = length-set ν s.target _
-stored-length Loop ν s = refl
-stored-length While ν s = refl
 
 counted_on : (k : Kind) (v : ℕ) (n n' : Counts) → v ≤ 4294967295 → Counted n → n.written < 1099511627776 → n' ≡ written_counted k v n → Counted n'
 counted_on k v n n' le h lt e = subst Counted (sym e) (go k v le)

@@ -5,7 +5,7 @@ use Rattle.reader.specs.declared.types.Refusal.TheVariants.{NoSheet}
 use Rattle.reader.specs.Sheet.{Sheet}
 use Rattle.reader.specs.Checks.{IsSheet, span}
 use Rattle.reader.specs.Steps.{many_done}
-use Rattle.reader.specs.WrittenRun.{Counts, WrittenRun, running, written_step, written_steps}
+use Rattle.reader.specs.WrittenRun.{Counts, no_counts, WrittenRun, running, written_step, written_steps}
 use Rattle.caption_box.specs.declared.types.State.{State}
 use Rattle.caption_box.specs.declared.types.Tally.{Tally}
 use Rattle.caption_box.specs.declared.types.Ticked.{Ticked}
@@ -39,6 +39,13 @@ run_of s ν = running ν (rest_of (records_of s) s.position) (written_counts s.t
 -- a rehearsal on a store's numbers, under its top
 abbrev pub written_scene_of : Rehearsal → List ℕ → ℕ → WrittenScene
 written_scene_of s ν top = written_scene (whole_of (records_of s)) top (run_of s ν)
+
+-- before the first statement, with no open level and clear tallies
+pub record AtFirst (s : Rehearsal) : Type 0 where
+  pub index : s.position.at ≡ 0
+  pub depth : s.position.depth ≡ 0
+  pub levels : length s.position.levels ≡ 8
+  pub clear : written_counts s.tallies ≡ no_counts
 
 -- what start gives and every call keeps: the records are those of a sheet, the position stands in it, and the tallies are as bounded as the written steps
 pub record Rehearsed (s : Rehearsal) : Type 0 where

@@ -2,10 +2,10 @@
 #![tactic(auto)]
 
 mod access;
+mod guards;
 pub mod laws;
 pub mod rehearsal;
 mod seating;
 pub mod show;
-mod state;
 pub mod tallies;
 pub mod types;

@@ -22,7 +22,7 @@ struct Position {
 }
 
 // The four tallies of a rehearsal. LOOP rounds grow by whole register values.
-#[derive(Clone, Copy)]
+#[derive(Clone, Copy, Default)]
 struct WrittenTallies {
     written: u64,
     entered: u64,

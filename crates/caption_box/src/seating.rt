@@ -1,10 +1,10 @@
 // The beginning of a run: inputs into the registers.
-ghost use Rattle.std.specs.Prelude.{◌≡◌, ℕ, ◌≤◌, true, List, ◌++◌, length, drop};
-ghost use Rattle.stores.specs.Stores.{Sound};
+ghost use Rattle.std.specs.Prelude.{◌≡◌, ◌≤◌, true, ◌++◌, length, drop};
 ghost use Rattle.caption_box.specs.Seats.{all_below, entered as entered_in, input_at};
 ghost use Rattle.caption_box.specs.Calls.{seats, seated};
 
 use crate::access::put;
+use crate::guards::{NAMED, check_width};
 use reader::types::Refusal;
 use stores::store::Store;
 
@@ -12,25 +12,17 @@ use stores::store::Store;
 fn all_fit(inputs: &[u32], top: u32) -> bool
     ensures { result ≡ all_below top inputs.now }
 {
-    for v in inputs {
-        if *v > top {
-            return false;
-        }
-    }
-    true
+    inputs.iter().all(|v| *v <= top)
 }
 
 // The number that register i gets of the inputs.
 fn input(inputs: &[u32], i: usize) -> u32
     ensures { result ≡ input_at inputs.now i }
 {
-    if i == 0 {
-        0
-    } else if i <= inputs.len() {
-        inputs[i - 1]
-    } else {
-        0
-    }
+    i.checked_sub(1)
+        .and_then(|k| inputs.get(k))
+        .copied()
+        .unwrap_or(0)
 }
 
 // Puts the inputs into x1, x2 and on, and 0 into the other registers below n.
@@ -47,15 +39,12 @@ fn fill<S: Store>(n: usize, store: &mut S, inputs: &[u32])
 
 // Puts a run that needs n registers to its beginning, unless the store or the inputs are refused.
 pub(crate) fn seat<S: Store>(n: usize, store: &mut S, inputs: &[u32]) -> Result<(), Refusal>
-    ensures sound { Sound (S.Store.numbers store.old) (S.Store.limit store.old) }
     ensures top { S.Store.limit store.new ≡ S.Store.limit store.old }
     ensures answer { result ≡ seats n (S.Store.limit store.old) (S.Store.numbers store.old) inputs.now }
     ensures numbers { S.Store.numbers store.new ≡ seated n (S.Store.limit store.old) (S.Store.numbers store.old) inputs.now }
 {
-    if store.count() < n {
-        return Err(Refusal::SmallStore);
-    }
-    if inputs.len() > 31 {
+    check_width(store, n)?;
+    if inputs.len() >= NAMED {
         return Err(Refusal::ManyInputs);
     }
     if !all_fit(inputs, store.top()) {

@@ -1,7 +1,7 @@
 -- Numbers that stand one to a cell: what a flat store's calls read and leave.
-use Rattle.std.proofs.Common.{◌≡◌, ℕ, ◌<◌, ◌≤◌, min, List, ◌++◌, length, get_or, take, drop, set, ap, ◌∙◌, ⊎_elim, append-nil, arith, drop-set-lt}
+use Rattle.std.proofs.Common.{◌≡◌, ℕ, ◌<◌, ◌≤◌, min, List, ◌++◌, length, take, drop, set, sym, ap, ◌∙◌, ⊎_elim, append-nil, arith, drop-set-lt}
 use lib.Seq.{take-set-lt}
-use Rattle.std.proofs.lemmas.List.{length-take, length-replicate, take_all, take_at, drop_all, get_or-take}
+use Rattle.std.proofs.lemmas.List.{length-take, length-replicate, take_all, take_at, drop_all}
 use Rattle.std.proofs.lemmas.Bool.{cases_lt}
 use Rattle.stores.specs.Zeros.{zeros, cleared}
 use Rattle.stores.specs.Flats.{flats, spare}
@@ -10,9 +10,13 @@ pub flats-length : (cells : List ℕ) → length (flats cells) ≡ min 4096 (len
 unfolding flats
 flats-length cells = length-take 4096 cells
 
-pub flats-get : (cells : List ℕ) (i : ℕ) → i < length (flats cells) → get_or (flats cells) i 0 ≡ get_or cells i 0
+pub flats_front : (cells : List ℕ) (n : ℕ) → n ≡ min 4096 (length cells) → take n cells ≡ flats cells
 unfolding flats
-flats-get cells i h = get_or-take 4096 cells i 0 (omega (arith, flats-length cells))
+flats_front cells n e =
+    ⊎_elim
+    (λ (lt : length cells < 4096). take_all n cells (omega arith) ∙ sym (take_all 4096 cells (omega arith)))
+    (λ (ge : 4096 ≤ length cells). let same : n ≡ 4096 = omega arith in ap (λ k. take k cells) same)
+    (cases_lt (length cells) 4096)
 
 pub flats-set : (cells : List ℕ) (i v : ℕ) → i < length (flats cells) → flats (set cells i v) ≡ set (flats cells) i v
 unfolding flats

@@ -1,7 +1,9 @@
 -- Numbers as six digits: what a decimal store's calls read and leave.
-use Rattle.std.proofs.Common.{◌≡◌, ℕ, ◌+◌, ◌*◌, ◌/◌, ◌%◌, ◌<◌, ◌≤◌, min, ◌≢◌, ◌⊎◌, List, length, get_or, drop, set, sym, ap, ◌∙◌, inl, inr, ⊎_elim, arith, length-set}
+use Rattle.std.proofs.Common.{◌≡◌, ℕ, zero, suc, ◌+◌, ◌-◌, ◌*◌, ◌/◌, ◌%◌, ◌<◌, ◌≤◌, min, ◌≢◌, ◌⊎◌, List, [], ◌∷◌, ◌++◌, length, get_or, take, drop, set, sym, refl, ap, ◌∙◌, inl, inr, ⊎_elim, add-zero, add-one, arith, length-set, length-drop, length-take}
+use borrow.Rule.Slice.PartMut.{put_mid}
+use native.Mathlib.Numerals.{unary_clauses}
 use native.Mathlib.Nat.{div-div-eq-div-mul}
-use Rattle.std.proofs.lemmas.List.{get_or-set_same, get_or-set_other, get_or_past, ext_get_or, drop-set-lt, length-replicate}
+use Rattle.std.proofs.lemmas.List.{get_or-take, get_or-drop, get_or-set_same, get_or-set_other, get_or_past, ext_get_or, drop-set-lt, length-replicate}
 use Rattle.std.proofs.lemmas.List.FromFn.{length-map-range_with_len, get_or-map-range_with_len}
 use Rattle.std.proofs.lemmas.Bool.{cases_lt, cases_eq}
 use Rattle.stores.specs.Stores.{Sound}
@@ -25,6 +27,53 @@ decimals-get bytes i h = get_or-map-range_with_len (λ i. value_at bytes (6 * i)
 value_same : (xs ys : List ℕ) (p : ℕ) → ((k : ℕ) → k < p + 6 → p ≤ k → get_or xs k 0 ≡ get_or ys k 0) → value_at xs p ≡ value_at ys p
 value_same xs ys p h =
     omega (arith, h p (omega arith) (omega arith), h (p + 1) (omega arith) (omega arith), h (p + 2) (omega arith) (omega arith), h (p + 3) (omega arith) (omega arith), h (p + 4) (omega arith) (omega arith), h (p + 5) (omega arith) (omega arith))
+
+-- the number that the first k digits from byte p on spell
+abbrev pub spelt : List ℕ → ℕ → ℕ → ℕ
+spelt bytes p zero = 0
+spelt bytes p (suc k) = 10 * spelt bytes p k + get_or bytes (p + k) 0
+
+pub spelt_low : (bytes : List ℕ) (p k : ℕ) → ((j : ℕ) → j < p + 6 → p ≤ j → get_or bytes j 0 ≤ 9) → k < 6 → spelt bytes p k ≤ 99999
+spelt_low bytes p k h lt = go k lt
+  where
+    a : get_or bytes (p + 0) 0 ≤ 9
+    a = h (p + 0) (omega arith) (omega arith)
+
+    b : get_or bytes (p + 1) 0 ≤ 9
+    b = h (p + 1) (omega arith) (omega arith)
+
+    c : get_or bytes (p + 2) 0 ≤ 9
+    c = h (p + 2) (omega arith) (omega arith)
+
+    d : get_or bytes (p + 3) 0 ≤ 9
+    d = h (p + 3) (omega arith) (omega arith)
+
+    e : get_or bytes (p + 4) 0 ≤ 9
+    e = h (p + 4) (omega arith) (omega arith)
+
+    go : (k : ℕ) → k < 6 → spelt bytes p k ≤ 99999
+    go zero lt = omega arith
+    go (suc zero) lt = omega (arith, a)
+    go (suc (suc zero)) lt = omega (arith, a, b)
+    go (suc (suc (suc zero))) lt = omega (arith, a, b, c)
+    go (suc (suc (suc (suc zero)))) lt = omega (arith, a, b, c, d)
+    go (suc (suc (suc (suc (suc zero))))) lt = omega (arith, a, b, c, d, e)
+    go (suc (suc (suc (suc (suc (suc k)))))) lt = absurd (omega arith)
+
+pub spelt_more : (bytes : List ℕ) (p k n d : ℕ) → n ≡ spelt bytes p k → d ≡ get_or bytes (p + k) 0 → 10 * n + d ≡ spelt bytes p (k + 1)
+spelt_more bytes p k n d e f =
+    let here : 10 * n + d ≡ spelt bytes p (suc k) = omega (arith, e, f) in
+    here ∙ ap (spelt bytes p) (sym (add-one k))
+
+pub spelt_all : (bytes : List ℕ) (p k : ℕ) → k ≡ 6 → spelt bytes p k ≡ value_at bytes p
+spelt_all bytes p k e = ap (spelt bytes p) e ∙ omega (arith, ap (λ (i : ℕ). get_or bytes i 0) (add-zero p))
+
+-- the six bytes from p on
+pub six-length : (bytes : List ℕ) (p : ℕ) → p + 6 ≤ length bytes → length (take (p + 6 - p) (drop p bytes)) ≡ 6
+six-length bytes p h = simp (length-take, length-drop) (omega arith)
+
+pub six-get : (bytes : List ℕ) (p k : ℕ) → k < 6 → get_or (take (p + 6 - p) (drop p bytes)) k 0 ≡ get_or bytes (p + k) 0
+six-get bytes p k h = get_or-take (p + 6 - p) (drop p bytes) k 0 (omega arith) ∙ get_or-drop p bytes k 0
 
 value_small : (bytes : List ℕ) (p : ℕ) → ((k : ℕ) → k < p + 6 → p ≤ k → get_or bytes k 0 ≤ 9) → value_at bytes p ≤ 999999
 value_small bytes p h =
@@ -118,8 +167,31 @@ put-decimals bytes i v lt le =
     (cases_eq k i))
 
 -- with one digit put in, all bytes of numbers are still digits
-pub digits-set : (bytes : List ℕ) (p d : ℕ) → d ≤ 9 → Digits bytes → Digits (set bytes p d)
+digits-set : (bytes : List ℕ) (p d : ℕ) → d ≤ 9 → Digits bytes → Digits (set bytes p d)
 digits-set bytes p d le h k lt = set_le bytes p d 9 k le (h k (omega (arith, same_count (set bytes p d) bytes (length-set bytes p d))))
+
+pub put-digits : (bytes : List ℕ) (p v : ℕ) → v ≤ 999999 → Digits bytes → Digits (put_at bytes p v)
+put-digits bytes p v le h =
+    digits-set _ (p + 5) (v % 10) (omega arith) (digits-set _ (p + 4) (v / 10 % 10) (omega arith) (digits-set _ (p + 3) (v / 100 % 10) (omega arith)
+    (digits-set _ (p + 2) (v / 1000 % 10) (omega arith) (digits-set _ (p + 1) (v / 10000 % 10) (omega arith) (digits-set bytes p (v / 100000) (omega arith) h)))))
+
+-- six bytes put over those from p on
+six_sets : (bytes : List ℕ) (p a b c d e f : ℕ) → p + 6 ≤ length bytes
+    → take p bytes ++ (a ∷ b ∷ c ∷ d ∷ e ∷ f ∷ drop 6 (drop p bytes)) ≡ set (set (set (set (set (set bytes p a) (p + 1) b) (p + 2) c) (p + 3) d) (p + 4) e) (p + 5) f
+six_sets [] p a b c d e f h = absurd (omega arith)
+six_sets (x ∷ []) zero a b c d e f h = absurd (omega arith)
+six_sets (x ∷ y ∷ []) zero a b c d e f h = absurd (omega arith)
+six_sets (x ∷ y ∷ z ∷ []) zero a b c d e f h = absurd (omega arith)
+six_sets (x ∷ y ∷ z ∷ u ∷ []) zero a b c d e f h = absurd (omega arith)
+six_sets (x ∷ y ∷ z ∷ u ∷ v ∷ []) zero a b c d e f h = absurd (omega arith)
+six_sets (x ∷ y ∷ z ∷ u ∷ v ∷ w ∷ l) zero a b c d e f h = refl
+six_sets (x ∷ l) (suc p) a b c d e f h = simp unary_clauses (simp unary_clauses at (ap {B = List ℕ} (λ r. x ∷ r) (six_sets l p a b c d e f (omega arith))))
+
+pub put_six : (bytes : List ℕ) (p n v : ℕ) (digits : List ℕ) → n ≡ 6 → digits ≡ v / 100000 ∷ v / 10000 % 10 ∷ v / 1000 % 10 ∷ v / 100 % 10 ∷ v / 10 % 10 ∷ v % 10 ∷ []
+    → p + 6 ≤ length bytes → put_mid p n bytes digits ≡ put_at bytes p v
+put_six bytes p n v digits en ed h =
+    ap (λ (m : ℕ). put_mid p m bytes digits) en ∙ ap (put_mid p 6 bytes) ed
+    ∙ six_sets bytes p (v / 100000) (v / 10000 % 10) (v / 1000 % 10) (v / 100 % 10) (v / 10 % 10) (v % 10) h
 
 -- a write touches no byte that belongs to no number
 pub put-unused : (bytes : List ℕ) (i v : ℕ) → i < count_of bytes → unused (put_at bytes (6 * i) v) ≡ unused bytes

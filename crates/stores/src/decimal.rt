@@ -1,19 +1,24 @@
 // A store that keeps each number as six decimal digits in lent memory. docs/STORES.md has the rules.
-ghost use Rattle.std.specs.Prelude.{◌≡◌, ℕ, ◌+◌, ◌*◌, ◌/◌, ◌<◌, ◌≤◌, min, length, slice_index, slice_set};
+ghost use Rattle.std.specs.Prelude.{◌≡◌, ℕ, ◌+◌, ◌*◌, ◌/◌, ◌%◌, ◌<◌, ◌≤◌, min, [], ◌∷◌, length, slice_index, slice_set};
 ghost use Rattle.stores.specs.Stores.{Sound, write_of, written_of};
 ghost use Rattle.stores.specs.Zeros.{zeros, cleared};
+ghost use Rattle.stores.specs.declared.decimal.TheConstants.{TOP};
 ghost use Rattle.stores.specs.Decimals.{value_at, put_at, count_of, decimals, Digits, unused, bytes_written};
 
 use crate::limits::counted;
 use crate::store::Store;
 use reader::types::Refusal;
 
+// The largest number that six digits spell.
+const TOP: u32 = 999_999;
+
 // The numbers stand in the first bytes, six to each; all of these are digits, and so no number is above the top.
+// FlatStore is a type of its own: what both could share are the tests of i, and each promise on the memory differs.
 #[derive(Drop)]
 pub struct DecimalStore<'a> {
     bytes: &'a mut [u8],
     ghost digits: { Digits bytes.now },
-    ghost fits: { Sound (decimals bytes.now) 999999 },
+    ghost fits: { Sound (decimals bytes.now) TOP },
 }
 
 // How many numbers this many bytes hold.
@@ -26,7 +31,7 @@ fn count_in(bytes: usize) -> usize
 // Sets the bytes that numbers use to 0.
 fn clear(bytes: &mut [u8])
     ensures digits { Digits bytes.new }
-    ensures fits { Sound (decimals bytes.new) 999999 }
+    ensures fits { Sound (decimals bytes.new) TOP }
     ensures zero { decimals bytes.new ≡ zeros (count_of bytes.old) }
     ensures memory { bytes.new ≡ cleared (6 * count_of bytes.old) bytes.old }
 {
@@ -39,12 +44,26 @@ fn number_at(bytes: &[u8], at: usize) -> u32
     requires { (at + 6 ≤ length bytes.now) × (((k : ℕ) → k < at + 6 → at ≤ k → slice_index bytes.now k ≤ 9)) }
     ensures { result ≡ value_at bytes.now at }
 {
-    bytes[at] as u32 * 100_000
-        + bytes[at + 1] as u32 * 10_000
-        + bytes[at + 2] as u32 * 1_000
-        + bytes[at + 3] as u32 * 100
-        + bytes[at + 4] as u32 * 10
-        + bytes[at + 5] as u32
+    let mut number = 0;
+    for digit in &bytes[at..at + 6] {
+        number = 10 * number + u32::from(*digit);
+    }
+    number
+}
+
+// The six digits of v, the highest first.
+fn digits_of(v: u32) -> [u8; 6]
+    requires { v ≤ TOP }
+    ensures { result ≡ v / 100000 ∷ v / 10000 % 10 ∷ v / 1000 % 10 ∷ v / 100 % 10 ∷ v / 10 % 10 ∷ v % 10 ∷ [] }
+{
+    [
+        (v / 100_000) as u8,
+        (v / 10_000 % 10) as u8,
+        (v / 1_000 % 10) as u8,
+        (v / 100 % 10) as u8,
+        (v / 10 % 10) as u8,
+        (v % 10) as u8,
+    ]
 }
 
 impl<'a> DecimalStore<'a> {
@@ -73,79 +92,56 @@ impl<'a> DecimalStore<'a> {
         number_at(self.bytes, 6 * i)
     }
 
-    // Puts one digit.
-    fn put_digit(&mut self, at: usize, digit: u8)
-        requires { (at < length self.old.bytes.now) × (digit ≤ 9) }
-        ensures long { length self.new.bytes.now ≡ length self.old.bytes.now }
-        ensures put { self.new.bytes.now ≡ slice_set self.old.bytes.now at digit }
-        ensures lent { self.new.bytes.ghost_name ≡ self.old.bytes.ghost_name }
-    {
-        self.bytes[at] = digit;
-    }
-
-    // Puts the six digits of v, from `at` on.
-    fn put_number(&mut self, at: usize, v: u32)
-        requires { (at + 6 ≤ length self.old.bytes.now) × (v ≤ 999999) }
-        ensures put { self.new.bytes.now ≡ put_at self.old.bytes.now at v }
-        ensures lent { self.new.bytes.ghost_name ≡ self.old.bytes.ghost_name }
-    {
-        self.put_digit(at, (v / 100_000) as u8);
-        self.put_digit(at + 1, (v / 10_000 % 10) as u8);
-        self.put_digit(at + 2, (v / 1_000 % 10) as u8);
-        self.put_digit(at + 3, (v / 100 % 10) as u8);
-        self.put_digit(at + 4, (v / 10 % 10) as u8);
-        self.put_digit(at + 5, (v % 10) as u8);
-    }
-
     // Puts v at i.
     fn put(&mut self, i: usize, v: u32)
-        requires { (i < length (decimals self.old.bytes.now)) × (v ≤ 999999) }
+        requires { (i < length (decimals self.old.bytes.now)) × (v ≤ TOP) }
         ensures numbers { decimals self.new.bytes.now ≡ slice_set (decimals self.old.bytes.now) i v }
         ensures memory { self.new.bytes.now ≡ put_at self.old.bytes.now (6 * i) v }
         ensures rest { unused self.new.bytes.now ≡ unused self.old.bytes.now }
         ensures lent { self.new.bytes.ghost_name ≡ self.old.bytes.ghost_name }
     {
-        self.put_number(6 * i, v);
+        let at = 6 * i;
+        self.bytes[at..at + 6].copy_from_slice(&digits_of(v));
     }
 }
 
 impl<'a> Store for DecimalStore<'a> {
     ghost numbers = { λ s. decimals s.bytes.now };
 
-    ghost limit = { λ _. 999999 };
+    ghost limit = { λ _. TOP };
+
+    ghost sound = { λ s. s.fits };
 
     fn count(&self) -> usize {
         count_in(self.bytes.len())
     }
 
     fn top(&self) -> u32 {
-        999_999
+        TOP
     }
 
     fn read(&self, i: usize) -> Result<u32, Refusal> {
-        if i < self.count() {
-            Ok(self.get(i))
-        } else {
-            Err(Refusal::NoRegister)
+        if i >= self.count() {
+            return Err(Refusal::NoRegister);
         }
+        Ok(self.get(i))
     }
 
     // The clauses past those of every store say that the memory is the same, and which of its bytes change.
     fn write(&mut self, i: usize, v: u32) -> Result<(), Refusal>
-        ensures same { ◌≡◌ {A = ℕ} 999999 999999 }
-        ensures answer { result ≡ write_of (decimals self.old.bytes.now) 999999 i v }
-        ensures written { decimals self.new.bytes.now ≡ written_of (decimals self.old.bytes.now) 999999 i v }
+        ensures answer { result ≡ write_of (decimals self.old.bytes.now) TOP i v }
+        ensures written { decimals self.new.bytes.now ≡ written_of (decimals self.old.bytes.now) TOP i v }
         ensures memory { self.new.bytes.now ≡ bytes_written self.old.bytes.now i v }
         ensures rest { unused self.new.bytes.now ≡ unused self.old.bytes.now }
         ensures lent { self.new.bytes.ghost_name ≡ self.old.bytes.ghost_name }
     {
         if i >= self.count() {
-            Err(Refusal::NoRegister)
-        } else if v > 999_999 {
-            Err(Refusal::OverTop)
-        } else {
-            self.put(i, v);
-            Ok(())
+            return Err(Refusal::NoRegister);
         }
+        if v > TOP {
+            return Err(Refusal::OverTop);
+        }
+        self.put(i, v);
+        Ok(())
     }
 }

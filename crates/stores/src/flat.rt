@@ -1,6 +1,7 @@
 // A store that keeps each number in 32 bits of lent memory. docs/STORES.md has the rules.
 ghost use Rattle.std.specs.Prelude.{◌≡◌, ℕ, ◌<◌, min, length, slice_index, slice_set};
 ghost use Rattle.stores.specs.Stores.{Sound, write_of, written_of};
+ghost use Rattle.stores.specs.declared.flat.TheConstants.{TOP};
 ghost use Rattle.stores.specs.Flats.{flats, spare};
 ghost use Rattle.stores.specs.Zeros.{zeros, cleared};
 
@@ -8,16 +9,19 @@ use crate::limits::counted;
 use crate::store::Store;
 use reader::types::Refusal;
 
+// The largest number that a cell holds.
+const TOP: u32 = u32::MAX;
+
 // The numbers are the first cells; none is above the top.
 #[derive(Drop)]
 pub struct FlatStore<'a> {
     cells: &'a mut [u32],
-    ghost fits: { Sound (flats cells.now) 4294967295 },
+    ghost fits: { Sound (flats cells.now) TOP },
 }
 
 // Sets the cells that hold numbers to 0.
 fn clear(cells: &mut [u32])
-    ensures fits { Sound (flats cells.new) 4294967295 }
+    ensures fits { Sound (flats cells.new) TOP }
     ensures zero { flats cells.new ≡ zeros (min 4096 (length cells.old)) }
     ensures memory { cells.new ≡ cleared (min 4096 (length cells.old)) cells.old }
 {
@@ -43,59 +47,44 @@ impl<'a> FlatStore<'a> {
         let FlatStore { cells: _ } = self;
     }
 
-    // Number i.
-    fn get(&self, i: usize) -> u32
-        requires { i < length (flats self.now.cells.now) }
-        ensures { result ≡ slice_index (flats self.now.cells.now) i }
+    // The numbers.
+    fn numbers(&self) -> &[u32]
+        ensures { result.now ≡ flats self.now.cells.now }
     {
-        self.cells[i]
-    }
-
-    // Puts v at i.
-    fn put(&mut self, i: usize, v: u32)
-        requires { i < length (flats self.old.cells.now) }
-        ensures numbers { flats self.new.cells.now ≡ slice_set (flats self.old.cells.now) i v }
-        ensures rest { spare self.new.cells.now ≡ spare self.old.cells.now }
-        ensures lent { self.new.cells.ghost_name ≡ self.old.cells.ghost_name }
-    {
-        self.cells[i] = v;
+        &self.cells[..counted(self.cells.len())]
     }
 }
 
 impl<'a> Store for FlatStore<'a> {
     ghost numbers = { λ s. flats s.cells.now };
 
-    ghost limit = { λ _. 4294967295 };
+    ghost limit = { λ _. TOP };
+
+    ghost sound = { λ s. s.fits };
 
     fn count(&self) -> usize {
-        counted(self.cells.len())
+        self.numbers().len()
     }
 
     fn top(&self) -> u32 {
-        4_294_967_295
+        TOP
     }
 
     fn read(&self, i: usize) -> Result<u32, Refusal> {
-        if i < self.count() {
-            Ok(self.get(i))
-        } else {
-            Err(Refusal::NoRegister)
-        }
+        self.numbers().get(i).copied().ok_or(Refusal::NoRegister)
     }
 
     // The clauses past those of every store say that the memory is the same, and that its other cells stay.
     fn write(&mut self, i: usize, v: u32) -> Result<(), Refusal>
-        ensures same { ◌≡◌ {A = ℕ} 4294967295 4294967295 }
-        ensures answer { result ≡ write_of (flats self.old.cells.now) 4294967295 i v }
-        ensures written { flats self.new.cells.now ≡ written_of (flats self.old.cells.now) 4294967295 i v }
+        ensures answer { result ≡ write_of (flats self.old.cells.now) TOP i v }
+        ensures written { flats self.new.cells.now ≡ written_of (flats self.old.cells.now) TOP i v }
         ensures rest { spare self.new.cells.now ≡ spare self.old.cells.now }
         ensures lent { self.new.cells.ghost_name ≡ self.old.cells.ghost_name }
     {
-        if i < self.count() {
-            self.put(i, v);
-            Ok(())
-        } else {
-            Err(Refusal::NoRegister)
+        if i >= self.count() {
+            return Err(Refusal::NoRegister);
         }
+        self.cells[i] = v;
+        Ok(())
     }
 }

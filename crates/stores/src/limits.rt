@@ -5,5 +5,5 @@ ghost use Rattle.std.specs.Prelude.{◌≡◌, min};
 pub(crate) fn counted(room: usize) -> usize
     ensures { result ≡ min 4096 room }
 {
-    if room < 4096 { room } else { 4096 }
+    room.min(4096)
 }

@@ -1,7 +1,8 @@
 // A store over part of another store. docs/STORES.md has the rules.
-ghost use Rattle.std.specs.Prelude.{◌≡◌, ◌-◌, ◌≤◌, min, length, MatchOption};
-ghost use Rattle.stores.specs.Stores.{Sound, write_of, written_of};
-ghost use Rattle.stores.specs.Windows.{seen, written_below, Stands};
+ghost use Rattle.std.specs.Prelude.{◌≡◌, ◌-◌, ◌≤◌, min, length, MatchResult};
+ghost use Rattle.reader.specs.declared.types.Refusal.TheVariants.{NoRegister};
+ghost use Rattle.stores.specs.Stores.{write_of, written_of};
+ghost use Rattle.stores.specs.Windows.{seen, seen_sound, written_below, Stands};
 
 use crate::store::Store;
 use reader::types::Refusal;
@@ -18,13 +19,7 @@ pub struct Window<'a, S> {
 fn shown(count: usize, base: usize, len: usize) -> usize
     ensures { result ≡ min len (count - base) }
 {
-    if count <= base {
-        0
-    } else if count - base < len {
-        count - base
-    } else {
-        len
-    }
+    count.saturating_sub(base).min(len)
 }
 
 impl<'a, S: Store> Window<'a, S> {
@@ -45,15 +40,15 @@ impl<'a, S: Store> Window<'a, S> {
     }
 
     // Where number i of the window stands below.
-    fn place(&self, i: usize) -> Option<usize>
-        ensures sound { Sound (seen (S.Store.numbers self.now.below.now) self.now.base self.now.len) (S.Store.limit self.now.below.now) }
-        ensures place { MatchOption result (length (seen (S.Store.numbers self.now.below.now) self.now.base self.now.len) ≤ i) (λ at. Stands (S.Store.numbers self.now.below.now) (S.Store.limit self.now.below.now) self.now.base self.now.len i at) }
+    fn place(&self, i: usize) -> Result<usize, Refusal>
+        ensures { MatchResult result
+            (λ at. Stands (S.Store.numbers self.now.below.now) (S.Store.limit self.now.below.now) self.now.base self.now.len i at)
+            (λ e. (e ≡ NoRegister) × (length (seen (S.Store.numbers self.now.below.now) self.now.base self.now.len) ≤ i)) }
     {
-        let n = self.below.count();
-        if i < shown(n, self.base, self.len) {
-            Some(self.base + i)
+        if i < shown(self.below.count(), self.base, self.len) {
+            Ok(self.base + i)
         } else {
-            None
+            Err(Refusal::NoRegister)
         }
     }
 }
@@ -62,6 +57,8 @@ impl<'a, S: Store> Store for Window<'a, S> {
     ghost numbers = { λ w. seen (S.Store.numbers w.below.now) w.base w.len };
 
     ghost limit = { λ w. S.Store.limit w.below.now };
+
+    ghost sound = { λ w. seen_sound _ _ w.base w.len (S.Store.sound w.below.now) };
 
     fn count(&self) -> usize {
         shown(self.below.count(), self.base, self.len)
@@ -72,10 +69,8 @@ impl<'a, S: Store> Store for Window<'a, S> {
     }
 
     fn read(&self, i: usize) -> Result<u32, Refusal> {
-        match self.place(i) {
-            Some(at) => self.below.read(at),
-            None => Err(Refusal::NoRegister),
-        }
+        let at = self.place(i)?;
+        self.below.read(at)
     }
 
     // The clauses past those of every store say what the store below then holds, and that it is the same store.
@@ -87,9 +82,7 @@ impl<'a, S: Store> Store for Window<'a, S> {
         ensures place { (self.new.base ≡ self.old.base) × (self.new.len ≡ self.old.len) }
         ensures lent { self.new.below.ghost_name ≡ self.old.below.ghost_name }
     {
-        match self.place(i) {
-            Some(at) => self.below.write(at, v),
-            None => Err(Refusal::NoRegister),
-        }
+        let at = self.place(i)?;
+        self.below.write(at, v)
     }
 }

@@ -1,11 +1,13 @@
 // The calls of a rehearsal. Start gives one that is `Rehearsed`, and every call keeps it so. A tick is then exactly one of
 // the written run; what the other calls do and answer needs no such premise.
-ghost use Rattle.std.specs.Prelude.{◌≡◌, ℕ, List, IfOk, MatchResult};
+ghost use Rattle.std.specs.Prelude.{◌≡◌, Ok, Err, IfOk, MatchResult};
 ghost use Rattle.caption_box.specs.declared.types.Question.TheVariants.{Register};
 ghost use Rattle.caption_box.specs.WrittenCalls.{written_outcome, written_ticks, written_rewinds, written_corrects, written_asks};
-ghost use Rattle.caption_box.specs.Rehearsals.{written_scene_of, Rehearsed, WrittenStarted, WrittenUnstarted};
+ghost use Rattle.caption_box.specs.Calls.{seats, seated};
+ghost use Rattle.caption_box.specs.Rehearsals.{AtFirst, written_scene_of, Rehearsed, WrittenStarted, WrittenUnstarted};
 
 use super::{Position, Rehearsal, WrittenTallies};
+use crate::guards::{NAMED, check_register, check_tick, check_width, register};
 use crate::seating::seat;
 use crate::types::{Question, Ticked};
 use reader::is_sheet;
@@ -28,14 +30,27 @@ impl<'a> Rehearsal<'a> {
         if !is_sheet(records) {
             return Err(Refusal::NoSheet);
         }
-        match seat(32, store, inputs) {
-            Ok(()) => Ok(Rehearsal {
-                records,
-                position: Position::first(),
-                tallies: WrittenTallies::clear(),
-            }),
-            Err(refusal) => Err(refusal),
-        }
+        Rehearsal::begin(records, store, inputs)
+    }
+
+    // A rehearsal at its beginning, whatever the records.
+    fn begin<S: Store>(
+        records: &'a [Placed<Statement>],
+        store: &mut S,
+        inputs: &[u32],
+    ) -> Result<Rehearsal<'a>, Refusal>
+        ensures top { S.Store.limit store.new ≡ S.Store.limit store.old }
+        ensures numbers { S.Store.numbers store.new ≡ seated 32 (S.Store.limit store.old) (S.Store.numbers store.old) inputs.now }
+        ensures answer { MatchResult result
+            (λ s. (s.records ≡ records.entry) × AtFirst s × (seats 32 (S.Store.limit store.old) (S.Store.numbers store.old) inputs.now ≡ Ok tt))
+            (λ e. seats 32 (S.Store.limit store.old) (S.Store.numbers store.old) inputs.now ≡ Err e) }
+    {
+        seat(NAMED, store, inputs)?;
+        Ok(Rehearsal {
+            records,
+            position: Position::first(),
+            tallies: WrittenTallies::default(),
+        })
     }
 
     // Does up to k written steps; the answer says how many, and how the rehearsal then stands.
@@ -45,15 +60,8 @@ impl<'a> Rehearsal<'a> {
         ensures kept { Rehearsed self.old → Rehearsed self.new }
         ensures exact { Rehearsed self.old → written_outcome result (written_scene_of self.new (S.Store.numbers store.new) (S.Store.limit store.new)) ≡ written_ticks (written_scene_of self.old (S.Store.numbers store.old) (S.Store.limit store.old)) k }
     {
-        if store.count() < 32 {
-            return Err(Refusal::SmallStore);
-        }
-        if k > 4096 {
-            return Err(Refusal::LongTick);
-        }
-        if self.tallies.written > 1_099_511_627_776 - k as u64 {
-            return Err(Refusal::LongShow);
-        }
+        check_width(store, NAMED)?;
+        check_tick(k, self.tallies.written)?;
         Ok(self.go(store, k))
     }
 
@@ -63,11 +71,7 @@ impl<'a> Rehearsal<'a> {
         ensures kept { Rehearsed self.old → Rehearsed self.new }
         ensures exact { written_outcome result (written_scene_of self.new (S.Store.numbers store.new) (S.Store.limit store.new)) ≡ written_rewinds (written_scene_of self.old (S.Store.numbers store.old) (S.Store.limit store.old)) inputs.now }
     {
-        if let Err(refusal) = seat(32, store, inputs) {
-            return Err(refusal);
-        }
-        self.position = Position::first();
-        self.tallies = WrittenTallies::clear();
+        *self = Rehearsal::begin(self.records, store, inputs)?;
         Ok(())
     }
 
@@ -82,12 +86,8 @@ impl<'a> Rehearsal<'a> {
         ensures kept { Rehearsed self.old → Rehearsed self.new }
         ensures exact { written_outcome result (written_scene_of self.new (S.Store.numbers store.new) (S.Store.limit store.new)) ≡ written_corrects (written_scene_of self.old (S.Store.numbers store.old) (S.Store.limit store.old)) register value }
     {
-        if store.count() < 32 {
-            return Err(Refusal::SmallStore);
-        }
-        if register > 31 {
-            return Err(Refusal::NoRegister);
-        }
+        check_width(store, NAMED)?;
+        check_register(register)?;
         store.write(register, value)
     }
 
@@ -95,19 +95,9 @@ impl<'a> Rehearsal<'a> {
     pub fn ask<S: Store>(&self, store: &S, question: Question) -> Result<u128, Refusal>
         ensures { result ≡ written_asks (written_scene_of self.now (S.Store.numbers store.now) (S.Store.limit store.now)) question }
     {
-        if store.count() < 32 {
-            return Err(Refusal::SmallStore);
-        }
+        check_width(store, NAMED)?;
         match question {
-            Question::Register(i) => {
-                if i > 31 {
-                    return Err(Refusal::NoRegister);
-                }
-                match store.read(i) {
-                    Ok(v) => Ok(v as u128),
-                    Err(refusal) => Err(refusal),
-                }
-            }
+            Question::Register(i) => register(store, i).map(u128::from),
             Question::Tally(tally) => Ok(self.tallies.get(tally)),
         }
     }

@@ -1,6 +1,5 @@
 // The tallies of a rehearsal.
 ghost use Rattle.std.specs.Prelude.{◌≡◌, ℕ, suc, ◌<◌, ◌≤◌};
-ghost use Rattle.reader.specs.WrittenRun.{no_counts};
 ghost use Rattle.caption_box.specs.WrittenSteps.{written_counted, Counted};
 ghost use Rattle.caption_box.specs.Rehearsals.{written_counts, written_tally};
 
@@ -9,28 +8,16 @@ use crate::types::Tally;
 use reader::types::Kind;
 
 impl WrittenTallies {
-    // Clear tallies.
-    pub(super) fn clear() -> WrittenTallies
-        ensures { written_counts result ≡ no_counts }
-    {
-        WrittenTallies {
-            written: 0,
-            entered: 0,
-            rounds: 0,
-            whiles: 0,
-        }
-    }
-
     // The tally that is asked for.
     pub(super) fn get(&self, tally: Tally) -> u128
         ensures { result ≡ written_tally self.now tally }
     {
         match tally {
             Tally::BoxSteps => 0,
-            Tally::WrittenSteps => self.written as u128,
-            Tally::LoopsEntered => self.entered as u128,
+            Tally::WrittenSteps => u128::from(self.written),
+            Tally::LoopsEntered => u128::from(self.entered),
             Tally::LoopRounds => self.rounds,
-            Tally::WhileRounds => self.whiles as u128,
+            Tally::WhileRounds => u128::from(self.whiles),
         }
     }
 
@@ -42,12 +29,11 @@ impl WrittenTallies {
     {
         match kind {
             Kind::Zero => {}
-            Kind::Plus => self.written += 1,
-            Kind::Minus => self.written += 1,
+            Kind::Plus | Kind::Minus => self.written += 1,
             Kind::Loop => {
                 self.written += 1;
                 self.entered = self.entered.saturating_add(1);
-                self.rounds = self.rounds.saturating_add(found as u128);
+                self.rounds = self.rounds.saturating_add(u128::from(found));
             }
             Kind::While => {
                 self.written += 1;

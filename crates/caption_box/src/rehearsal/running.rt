@@ -1,5 +1,5 @@
 // The steps of a rehearsal.
-ghost use Rattle.std.specs.Prelude.{◌≡◌, ℕ, suc, ◌+◌, ◌<◌, ◌≤◌, List, length};
+ghost use Rattle.std.specs.Prelude.{◌≡◌, suc, ◌+◌, ◌<◌, ◌≤◌};
 ghost use Rattle.reader.specs.Steps.{many_done};
 ghost use Rattle.reader.specs.WrittenRun.{written_step, written_steps};
 ghost use Rattle.caption_box.specs.Calls.{state_of};
@@ -14,7 +14,6 @@ use stores::store::Store;
 impl<'a> Rehearsal<'a> {
     // How the rehearsal stands on the store.
     fn look<S: Store>(&self, store: &S) -> State
-        requires { 32 ≤ length (S.Store.numbers store.now) }
         ensures { Rehearsed self.now → result ≡ state_of (written_step (S.Store.limit store.now) (run_of self.now (S.Store.numbers store.now))) }
     {
         fate(record_at(self.records, self.position.at), store)
@@ -22,11 +21,9 @@ impl<'a> Rehearsal<'a> {
 
     // Does one written step if it can be done, and answers how the rehearsal stood before it.
     fn step<S: Store>(&mut self, store: &mut S) -> State
-        requires room { 32 ≤ length (S.Store.numbers store.old) }
-        requires more { self.old.tallies.written < 1099511627776 }
+        requires { self.old.tallies.written < 1099511627776 }
         ensures same { self.new.records ≡ self.old.records }
         ensures top { S.Store.limit store.new ≡ S.Store.limit store.old }
-        ensures room { 32 ≤ length (S.Store.numbers store.new) }
         ensures most { self.new.tallies.written ≤ suc self.old.tallies.written }
         ensures exact { Rehearsed self.old → Stepped (S.Store.limit store.old) self.old (S.Store.numbers store.old) result self.new (S.Store.numbers store.new) }
     {
@@ -40,10 +37,10 @@ impl<'a> Rehearsal<'a> {
         state
     }
 
-    // Written steps until k are done or the next cannot be done.
+    // Written steps until k are done or the next cannot be done. The loop is that of a show: one over closures would lend
+    // rehearsal and store to the step and to the look at once.
     pub(super) fn go<S: Store>(&mut self, store: &mut S, k: u32) -> Ticked
-        requires room { 32 ≤ length (S.Store.numbers store.old) }
-        requires more { self.old.tallies.written + k ≤ 1099511627776 }
+        requires { self.old.tallies.written + k ≤ 1099511627776 }
         ensures same { self.new.records ≡ self.old.records }
         ensures top { S.Store.limit store.new ≡ S.Store.limit store.old }
         ensures exact { Rehearsed self.old → Gone (S.Store.limit store.old) k self.old (S.Store.numbers store.old) result self.new (S.Store.numbers store.new) }

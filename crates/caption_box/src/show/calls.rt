@@ -14,6 +14,7 @@ ghost use Rattle.caption_box.specs.History.{Plays, History.started as started_wi
 ghost use Rattle.caption_box.specs.Claim.{Follows, Carries, CarriesRefused, LineFollows};
 
 use super::{RefusedStart, Show};
+use crate::guards::{check_register, check_tick, check_width, register};
 use crate::seating::seat;
 use crate::tallies::Tallies;
 use crate::types::{Question, Ticked};
@@ -42,25 +43,19 @@ impl<'c> Show<'c> {
             Ok(()) => Ok(Show {
                 sealed,
                 next: 0,
-                tallies: Tallies::clear(),
+                tallies: Tallies::default(),
             }),
             Err(refusal) => Err(RefusedStart { refusal, sealed }),
         }
     }
 
+    // A call with several returns has this private part, so that what follows from `exact` is shown once.
     fn tick_exactly<S: Store>(&mut self, store: &mut S, k: u32) -> Result<Ticked, Refusal>
         ensures code { self.new.sealed ≡ self.old.sealed }
         ensures exact { outcome result (scene_of self.new (S.Store.numbers store.new) (S.Store.limit store.new)) ≡ ticks (scene_of self.old (S.Store.numbers store.old) (S.Store.limit store.old)) k }
     {
-        if store.count() < self.sealed.registers() {
-            return Err(Refusal::SmallStore);
-        }
-        if k > 4096 {
-            return Err(Refusal::LongTick);
-        }
-        if self.tallies.largest() > 1_099_511_627_776 - k as u64 {
-            return Err(Refusal::LongShow);
-        }
+        check_width(store, self.sealed.registers())?;
+        check_tick(k, self.tallies.largest())?;
         Ok(self.go(store, k))
     }
 
@@ -79,11 +74,9 @@ impl<'c> Show<'c> {
         ensures code { self.new.sealed ≡ self.old.sealed }
         ensures exact { outcome result (scene_of self.new (S.Store.numbers store.new) (S.Store.limit store.new)) ≡ rewinds (scene_of self.old (S.Store.numbers store.old) (S.Store.limit store.old)) inputs.now }
     {
-        if let Err(refusal) = seat(self.sealed.registers(), store, inputs) {
-            return Err(refusal);
-        }
+        seat(self.sealed.registers(), store, inputs)?;
         self.next = 0;
-        self.tallies = Tallies::clear();
+        self.tallies = Tallies::default();
         Ok(())
     }
 
@@ -106,12 +99,8 @@ impl<'c> Show<'c> {
         ensures code { self.new.sealed ≡ self.old.sealed }
         ensures exact { outcome result (scene_of self.new (S.Store.numbers store.new) (S.Store.limit store.new)) ≡ corrects (scene_of self.old (S.Store.numbers store.old) (S.Store.limit store.old)) register value }
     {
-        if store.count() < self.sealed.registers() {
-            return Err(Refusal::SmallStore);
-        }
-        if register > 31 {
-            return Err(Refusal::NoRegister);
-        }
+        check_width(store, self.sealed.registers())?;
+        check_register(register)?;
         store.write(register, value)
     }
 
@@ -133,19 +122,9 @@ impl<'c> Show<'c> {
     fn ask_exactly<S: Store>(&self, store: &S, question: Question) -> Result<u64, Refusal>
         ensures { result ≡ asks (scene_of self.now (S.Store.numbers store.now) (S.Store.limit store.now)) question }
     {
-        if store.count() < self.sealed.registers() {
-            return Err(Refusal::SmallStore);
-        }
+        check_width(store, self.sealed.registers())?;
         match question {
-            Question::Register(i) => {
-                if i > 31 {
-                    return Err(Refusal::NoRegister);
-                }
-                match store.read(i) {
-                    Ok(v) => Ok(v as u64),
-                    Err(refusal) => Err(refusal),
-                }
-            }
+            Question::Register(i) => register(store, i).map(u64::from),
             Question::Tally(tally) => Ok(self.tallies.get(tally)),
         }
     }

@@ -1,6 +1,5 @@
 // The steps of a show.
-ghost use Rattle.std.specs.Prelude.{◌≡◌, ℕ, ◌+◌, ◌<◌, ◌≤◌, List, length};
-ghost use Rattle.translator.specs.Seals.{sealed_width};
+ghost use Rattle.std.specs.Prelude.{◌≡◌, ◌+◌, ◌<◌, ◌≤◌};
 ghost use Rattle.caption_box.specs.Tallies.{largest_of};
 ghost use Rattle.caption_box.specs.Calls.{step as step_of, state_of, onward, tick_box, tick_steps, tick_state};
 ghost use Rattle.caption_box.specs.Shows.{setting_of, box_of};
@@ -13,7 +12,6 @@ use stores::store::Store;
 impl<'c> Show<'c> {
     // How the show stands on the store.
     fn look<S: Store>(&self, store: &S) -> State
-        requires { sealed_width self.now.sealed ≤ length (S.Store.numbers store.now) }
         ensures { result ≡ state_of (step_of (setting_of self.now (S.Store.limit store.now)) (box_of self.now (S.Store.numbers store.now))) }
     {
         match self.sealed.get(self.next) {
@@ -29,8 +27,7 @@ impl<'c> Show<'c> {
 
     // Does one step if it can be done, and answers how the show stood before it.
     fn step<S: Store>(&mut self, store: &mut S) -> State
-        requires room { sealed_width self.old.sealed ≤ length (S.Store.numbers store.old) }
-        requires more { largest_of self.old.tallies < 1099511627776 }
+        requires { largest_of self.old.tallies < 1099511627776 }
         ensures code { self.new.sealed ≡ self.old.sealed }
         ensures top { S.Store.limit store.new ≡ S.Store.limit store.old }
         ensures state { result ≡ state_of (step_of (setting_of self.old (S.Store.limit store.old)) (box_of self.old (S.Store.numbers store.old))) }
@@ -52,8 +49,7 @@ impl<'c> Show<'c> {
 
     // Steps until k are done or the next cannot be done.
     pub(super) fn go<S: Store>(&mut self, store: &mut S, k: u32) -> Ticked
-        requires room { sealed_width self.old.sealed ≤ length (S.Store.numbers store.old) }
-        requires more { largest_of self.old.tallies + k ≤ 1099511627776 }
+        requires { largest_of self.old.tallies + k ≤ 1099511627776 }
         ensures code { self.new.sealed ≡ self.old.sealed }
         ensures top { S.Store.limit store.new ≡ S.Store.limit store.old }
         ensures moved { box_of self.new (S.Store.numbers store.new) ≡ tick_box (setting_of self.old (S.Store.limit store.old)) k (box_of self.old (S.Store.numbers store.old)) }

@@ -1,10 +1,10 @@
 // One step of an operation over a store.
-ghost use Rattle.std.specs.Prelude.{◌≡◌, ℕ, suc, ◌<◌, ◌≤◌, List, length};
-ghost use Rattle.translator.specs.JumpCode.{inside};
+ghost use Rattle.std.specs.Prelude.{◌≡◌, suc, ◌<◌};
+ghost use Rattle.translator.specs.JumpCode.{inside, fits as fit};
 ghost use Rattle.caption_box.specs.declared.types.State.TheVariants.{Time};
 ghost use Rattle.caption_box.specs.Stepping.{fate as fate_of, stored as stored_by, label_after, finds_more};
 
-use crate::access::{get, put};
+use crate::access::{get, plus_fate, put};
 use crate::types::State;
 use stores::store::Store;
 use translator::types::Operation;
@@ -16,58 +16,40 @@ fn is_inside(size: usize, label: usize) -> bool
     label >= 1 && label <= size
 }
 
-// Whether an operation of a code of that size can be done, where n registers may be named.
-pub(super) fn fate<S: Store>(operation: Operation, n: usize, size: usize, store: &S) -> State
-    requires { n ≤ length (S.Store.numbers store.now) }
-    ensures { result ≡ fate_of (S.Store.limit store.now) n size (S.Store.numbers store.now) operation }
+// Whether an operation of a code of that size names no register from n on, and no label outside the code.
+fn fits(operation: Operation, n: usize, size: usize) -> bool
+    ensures { result ≡ fit n size operation }
 {
     match operation {
-        Operation::Halt => State::Ended,
-        Operation::Plus {
-            target,
-            source,
-            constant,
-        } => {
-            if target < n && source < n {
-                let sum = get(store, source) as u64 + constant as u64;
-                if sum <= store.top() as u64 {
-                    State::Time
-                } else {
-                    State::Over
-                }
-            } else {
-                State::Unfit
-            }
+        Operation::Halt => true,
+        Operation::Plus { target, source, .. } | Operation::Minus { target, source, .. } => {
+            target < n && source < n
         }
-        Operation::Minus {
-            target,
-            source,
-            constant: _,
-        } => {
-            if target < n && source < n {
-                State::Time
-            } else {
-                State::Unfit
-            }
-        }
-        Operation::If { source, label } => {
-            if source < n && is_inside(size, label) {
-                State::Time
-            } else {
-                State::Unfit
-            }
-        }
-        Operation::Goto { label } => {
-            if is_inside(size, label) {
-                State::Time
-            } else {
-                State::Unfit
-            }
-        }
+        Operation::If { source, label } => source < n && is_inside(size, label),
+        Operation::Goto { label } => is_inside(size, label),
     }
 }
 
-// Where an operation leads, as an index, and whether it is a test that found another number than 0.
+// How an operation of a code of that size stands that is next, where n registers may be named.
+pub(super) fn fate<S: Store>(operation: Operation, n: usize, size: usize, store: &S) -> State
+    ensures { result ≡ fate_of (S.Store.limit store.now) n size (S.Store.numbers store.now) operation }
+{
+    if !fits(operation, n, size) {
+        return State::Unfit;
+    }
+    match operation {
+        Operation::Halt => State::Ended,
+        Operation::Plus {
+            source,
+            constant,
+            ..
+        } => plus_fate(store, source, constant),
+        Operation::Minus { .. } | Operation::If { .. } | Operation::Goto { .. } => State::Time,
+    }
+}
+
+// Where an operation leads, as an index, and whether it is a test that found another number than 0. The one does not tell
+// the other: a jump may lead to the next instruction too.
 #[derive(Clone, Copy)]
 pub(super) struct Moved {
     pub(super) next: usize,
@@ -82,7 +64,6 @@ pub(super) fn perform<S: Store>(
     size: usize,
     store: &mut S,
 ) -> Moved
-    requires room { n ≤ length (S.Store.numbers store.old) }
     requires inside { at < size }
     requires time { fate_of (S.Store.limit store.old) n size (S.Store.numbers store.old) operation ≡ Time }
     ensures top { S.Store.limit store.new ≡ S.Store.limit store.old }

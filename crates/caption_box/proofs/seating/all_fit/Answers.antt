@@ -1,13 +1,10 @@
-use Rattle.std.proofs.Common.{true, false, sym, ◌∙◌, arith}
-use Rattle.std.proofs.lemmas.Bool.{le-leb, lt-leb}
-use Rattle.caption_box.proofs.Seats.{scan_at, scan_all}
+use Rattle.std.proofs.Common.{◌≤◌, ◌↔◌, IsTrue, arith}
+use Rattle.std.specs.List.{All}
+use Rattle.std.proofs.lemmas.Grind.{common_steps}
+use Rattle.caption_box.proofs.Seats.{below_told}
 use Rattle.caption_box.proofs.seating.all_fit.Goals as goal
 
-pub loop-v-preserved : goal.loop-v-preserved
-loop-v-preserved c = sym (scan_at c.args.top c.args.inputs.now c.loop-v.v-index true (omega arith) (le-leb _ c.args.top c.if-v-top.false)) ∙ c.loop-v.invariant
-
-pub returns-then-v-top : goal.returns-then-v-top
-returns-then-v-top c = sym (sym c.loop-v.invariant ∙ scan_at c.args.top c.args.inputs.now c.loop-v.v-index false (omega arith) (lt-leb _ c.args.top c.if-v-top.true))
-
 pub returns : goal.returns
-returns c = sym (scan_all c.args.top c.args.inputs.now c.loop-v.v-index (omega arith)) ∙ c.loop-v.invariant
+returns c =
+    let told : IsTrue c.all.result ↔ All (λ v. v ≤ c.args.top) c.args.inputs.now = grind (arith, common_steps) in
+    below_told c.args.top c.args.inputs.now c.all.result told.0 told.1

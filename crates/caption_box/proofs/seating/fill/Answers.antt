@@ -16,10 +16,9 @@ loop-i-preserved g c = (
 
 pub put-requires : goal.put-requires
 put-requires g c =
-    let long = c.loop-i.invariant.0.long in
     let low : input_at c.args.inputs.now c.loop-i.i ≤ g.S.Store.limit c.args.store.now = input_low _ _ c.loop-i.i c.requires.fit in
     let same = c.loop-i.invariant.1 in
-    (omega (arith, long, c.requires.room, c.loop-i-test.true), omega (arith, low, same, c.input.ensures))
+    omega (arith, low, same, c.input.ensures)
 
 pub returns : goal.returns
 returns g c =

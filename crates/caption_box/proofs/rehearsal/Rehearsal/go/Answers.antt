@@ -3,16 +3,16 @@ use Rattle.caption_box.proofs.Rehearsing.{rehearsing_none, rehearsing_more, rehe
 use Rattle.caption_box.proofs.rehearsal.Rehearsal.go.Goals as goal
 
 pub loop-steps-init : goal.loop-steps-init
-loop-steps-init g c = rehearsing_none (g.S.Store.limit c.args.store.now) c.args.self.now (g.S.Store.numbers c.args.store.now) c.requires.room
+loop-steps-init g c = rehearsing_none (g.S.Store.limit c.args.store.now) c.args.self.now (g.S.Store.numbers c.args.store.now)
 
 pub step-state-requires : goal.step-state-requires
-step-state-requires g c = record { room = c.loop-steps.invariant.room; more = omega (arith, c.requires.more, c.loop-steps.invariant.most, c.loop-steps-test.true) }
+step-state-requires g c = omega (arith, c.requires, c.loop-steps.invariant.most, c.loop-steps-test.true)
 
 pub loop-steps-preserved : goal.loop-steps-preserved
 loop-steps-preserved g c =
     let e = c.step-state.ensures in
     rehearsing_more _ _ _ _ _ _ _ c.loop-steps.invariant c.step-state.result _ c.step-state.new.self (g.S.Store.numbers c.step-state.new.store) (search rules)
-    e.same e.top e.room e.most e.exact
+    e.same e.top e.most e.exact
 
 pub returns-then-ne : goal.returns-then-ne
 returns-then-ne g c =

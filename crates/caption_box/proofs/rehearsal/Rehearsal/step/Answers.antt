@@ -1,6 +1,6 @@
-use Rattle.std.proofs.Common.{◌≡◌, suc, ◌≤◌, length, refl, ap, ◌∙◌, arith, rules}
+use Rattle.std.proofs.Common.{◌≡◌, suc, ◌≤◌, refl, arith, rules}
 use Rattle.caption_box.specs.declared.types.State.TheVariants.{Time}
-use Rattle.caption_box.proofs.WrittenSteps.{step_stays, step_done, stored-length}
+use Rattle.caption_box.proofs.WrittenSteps.{step_stays, step_done}
 use Rattle.caption_box.proofs.rehearsal.Rehearsal.step.Goals as goal
 
 pub returns-then-eq : goal.returns-then-eq
@@ -11,12 +11,11 @@ returns-then-eq g c =
     record {
       same = refl;
       top = c.perform-found.ensures.top;
-      room = omega (arith, c.requires.room, ap length c.perform-found.ensures.stored ∙ stored-length c.record_at-statement.result.kind ν c.record_at-statement.result);
       most = c.raise.ensures.most;
       exact = step_done c.args.self.now (g.S.Store.limit c.args.store.now) ν c.record_at-statement.result c.fate-state.result
           c.record_at-statement.ensures c.fate-state.ensures time (g.S.Store.numbers c.perform-found.new.store)
           c.perform-found.result c.raise.new.self c.moved-self.result c.perform-found.ensures.stored c.perform-found.ensures.found v
-          c.requires.more c.raise.ensures.counts c.moved-self.ensures;
+          c.requires c.raise.ensures.counts c.moved-self.ensures;
     }
 
 pub returns-else-eq : goal.returns-else-eq
@@ -27,7 +26,6 @@ returns-else-eq g c =
     record {
       same = refl;
       top = refl;
-      room = c.requires.room;
       most = most;
       exact = step_stays c.args.self.now (g.S.Store.limit c.args.store.now) (g.S.Store.numbers c.args.store.now) c.record_at-statement.result
           c.fate-state.result c.record_at-statement.ensures c.fate-state.ensures stop;

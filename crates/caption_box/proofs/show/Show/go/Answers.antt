@@ -4,7 +4,7 @@ use Rattle.caption_box.proofs.Going.{going_none, going_more, gone_stopped, gone_
 use Rattle.caption_box.proofs.show.Show.go.Goals as goal
 
 pub loop-steps-init : goal.loop-steps-init
-loop-steps-init g c = (refl, refl, going_none _ _ c.requires.room)
+loop-steps-init g c = (refl, refl, going_none _ _)
 
 pub loop-steps-preserved : goal.loop-steps-preserved
 loop-steps-preserved g c =

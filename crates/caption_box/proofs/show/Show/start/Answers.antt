@@ -1,4 +1,6 @@
-use Rattle.std.proofs.Common.{◌≡◌, ℕ, refl, ap, ◌∙◌}
+use Rattle.std.proofs.Common.{◌≡◌, ℕ, refl, ap, ◌∙◌, rules}
+use Rattle.reader.specs.WrittenRun.{no_counts}
+use Rattle.caption_box.specs.Tallies.{counts_of}
 use Rattle.caption_box.specs.Calls.{seats, seated}
 use Rattle.caption_box.specs.Shows.{code_setting}
 use Rattle.caption_box.proofs.Seats.{started, unstarted}
@@ -12,16 +14,18 @@ returns-in-Ok g c =
     let here = code_setting c.args.sealed top in
     let there = code_setting c.args.sealed (g.S.Store.limit c.seat.new.store) in
     let same : there ≡ here = ap (code_setting c.args.sealed) c.seat.ensures.top in
+    let steps : c.default.result.steps ≡ 0 = search rules in
+    let counts : counts_of c.default.result ≡ no_counts = search rules in
     let d = started here ν c.args.inputs.now (g.S.Store.numbers c.seat.new.store) there
-    c.clear.result.steps _ c.seat.result c.in-Ok.is
+    c.default.result.steps _ c.seat.result c.in-Ok.is
     (c.seat.ensures.answer ∙ ap (λ (n : ℕ). seats n top ν c.args.inputs.now) c.registers.ensures)
-    (c.seat.ensures.numbers ∙ ap (λ (n : ℕ). seated n top ν c.args.inputs.now) c.registers.ensures) same c.clear.ensures.steps c.clear.ensures.counts in
+    (c.seat.ensures.numbers ∙ ap (λ (n : ℕ). seated n top ν c.args.inputs.now) c.registers.ensures) same steps counts in
     record {
       top = c.seat.ensures.top;
       code = refl;
       exact = d;
-      follows = λ p pl. start_follows p here c.args.inputs.now ν _ pl c.seat.ensures.sound.1 d;
-      loaded = λ text n f k rs fs l. start_follows l.sheet here c.args.inputs.now ν _ (loaded_plays top l) c.seat.ensures.sound.1 d;
+      follows = λ p pl. start_follows p here c.args.inputs.now ν _ pl (g.met.S.Store.sound c.args.store.now).1 d;
+      loaded = λ text n f k rs fs l. start_follows l.sheet here c.args.inputs.now ν _ (loaded_plays top l) (g.met.S.Store.sound c.args.store.now).1 d;
     }
 
 pub returns-in-Err : goal.returns-in-Err

@@ -12,7 +12,6 @@ perform-moved-requires g c =
     let time : c.fate-state.result ≡ Time = search rules in
     let at = inside_code code c.args.self.now.next c.in-Some.instruction e in
     record {
-      room = omega (arith, c.requires.room, c.registers-n.ensures);
       inside = omega (arith, at, c.len-size.ensures);
       time = sym c.fate-state.ensures ∙ time;
     }

@@ -3,4 +3,4 @@ use Rattle.stores.proofs.SixDigits.{decimals-length}
 use Rattle.stores.proofs.decimal.DecimalStoreStore.count.Goals as goal
 
 pub returns : goal.returns
-returns c = record { sound = c.args.self.now.fits; answer = omega (arith, decimals-length c.args.self.now.bytes.now) }
+returns c = omega (arith, decimals-length)
