@@ -4,24 +4,45 @@ use caption_box::types::Ticked;
 use reader::types::{Placed, Refusal};
 use std::fmt;
 use stores::store::Store;
+use thiserror::Error;
 
 // The answer to a line of the script.
 #[derive(Clone, Copy)]
 pub enum Answer {
     Sheet(Counts),
     Store { count: usize, top: u32 },
-    Done(u128),
-    DoneBoth(Comparison),
-    Ticked(Ticked, u128),
-    TickedBoth(Ticked, Comparison),
+    Done(Lines),
+    Ticked(Ticked, Lines),
     Number(u128),
-    Refused(Refusal),
+}
+
+// The line of what runs, or a show's beside that of a rehearsal.
+#[derive(Clone, Copy)]
+pub enum Lines {
+    One(u128),
+    Both(Comparison),
+}
+
+// What a line comes to.
+pub type Reply = Result<Answer, NotDone>;
+
+// Why a line was not done.
+#[derive(Clone, Copy, Debug, Drop, Error)]
+pub enum NotDone {
+    #[error("refused {} ({})", .0.number(), .0)]
+    Refused(#[from] Refusal),
+    #[error("refused {} at {} ({})", .0.item.number(), .0.place, .0.item)]
     RefusedAt(Placed<Refusal>),
+    #[error("no sheet was loaded")]
     NoSheet,
+    #[error("no store was made")]
     NoStore,
+    #[error("no show or rehearsal was started")]
     NoRun,
+    #[error("the script ends before the line . that ends a sheet")]
     Unfinished,
-    Bad(BadLine),
+    #[error(transparent)]
+    Bad(#[from] BadLine),
 }
 
 // What is counted in a sheet and its code; `registers` is how many the code needs.
@@ -44,14 +65,6 @@ pub struct Comparison {
 }
 
 impl Answer {
-    // What a call came to.
-    pub fn of(answer: Result<Answer, Refusal>) -> Answer {
-        match answer {
-            Ok(answer) => answer,
-            Err(refusal) => Answer::Refused(refusal),
-        }
-    }
-
     // The answer to a line that makes a store.
     pub fn of_store<S: Store>(store: &S) -> Answer {
         Answer::Store {
@@ -66,33 +79,20 @@ impl fmt::Display for Answer {
         match *self {
             Answer::Sheet(counts) => write!(f, "{counts}"),
             Answer::Store { count, top } => write!(f, "{count} numbers, top {top}"),
-            Answer::Done(line) => write!(f, "done, line {line}"),
-            Answer::DoneBoth(both) => write!(f, "done, {both}"),
-            Answer::Ticked(Ticked { steps, state }, line) => {
-                let word = state.word();
-                write!(f, "{steps} done, {word}, line {line}")
-            }
-            Answer::TickedBoth(Ticked { steps, state }, both) => {
-                let word = state.word();
-                write!(f, "{steps} done, {word}, {both}")
+            Answer::Done(lines) => write!(f, "done, {lines}"),
+            Answer::Ticked(Ticked { steps, state }, lines) => {
+                write!(f, "{steps} done, {state}, {lines}")
             }
             Answer::Number(number) => write!(f, "{number}"),
-            Answer::Refused(refusal) => {
-                let number = refusal.number();
-                let words = refusal.words();
-                write!(f, "refused {number} ({words})")
-            }
-            Answer::RefusedAt(refused) => {
-                let number = refused.item.number();
-                let place = refused.place;
-                let words = refused.item.words();
-                write!(f, "refused {number} at {place} ({words})")
-            }
-            Answer::NoSheet => write!(f, "no sheet was loaded"),
-            Answer::NoStore => write!(f, "no store was made"),
-            Answer::NoRun => write!(f, "no show or rehearsal was started"),
-            Answer::Unfinished => write!(f, "the script ends before the line . that ends a sheet"),
-            Answer::Bad(bad) => write!(f, "{bad}"),
+        }
+    }
+}
+
+impl fmt::Display for Lines {
+    fn fmt<W: fmt::Write>(&self, f: &mut fmt::Formatter<W>) -> fmt::Result {
+        match *self {
+            Lines::One(line) => write!(f, "line {line}"),
+            Lines::Both(both) => write!(f, "{both}"),
         }
     }
 }

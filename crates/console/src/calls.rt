@@ -1,63 +1,110 @@
-// The calls to a show, and to a rehearsal.
-use crate::answer::Answer;
+// The calls to what runs.
+use crate::answer::{Answer, Lines};
 use crate::line::Call;
+use crate::twins::Twins;
 use caption_box::rehearsal::Rehearsal;
 use caption_box::show::Show;
+use caption_box::types::{Question, Ticked};
 use reader::types::Refusal;
 use stores::store::Store;
 
-pub fn call_show<S: Store>(
-    show: &mut Show<'_>,
-    store: &mut S,
+// What runs: a show, a rehearsal, or both beside each other.
+pub trait Performance {
+    fn tick<S: Store>(&mut self, stores: &mut Twins<S>, k: u32) -> Result<Ticked, Refusal>;
+
+    fn correct<S: Store>(
+        &mut self,
+        stores: &mut Twins<S>,
+        register: usize,
+        value: u32,
+    ) -> Result<(), Refusal>;
+
+    fn rewind<S: Store>(&mut self, stores: &mut Twins<S>, inputs: &[u32]) -> Result<(), Refusal>;
+
+    fn ask<S: Store>(&self, stores: &Twins<S>, question: Question) -> Result<u128, Refusal>;
+
+    fn lines<S: Store>(&self, stores: &Twins<S>) -> Result<Lines, Refusal>;
+}
+
+impl Performance for Show<'_> {
+    fn tick<S: Store>(&mut self, stores: &mut Twins<S>, k: u32) -> Result<Ticked, Refusal> {
+        Show::tick(self, &mut stores.first, k)
+    }
+
+    fn correct<S: Store>(
+        &mut self,
+        stores: &mut Twins<S>,
+        register: usize,
+        value: u32,
+    ) -> Result<(), Refusal> {
+        Show::correct(self, &mut stores.first, register, value)
+    }
+
+    fn rewind<S: Store>(&mut self, stores: &mut Twins<S>, inputs: &[u32]) -> Result<(), Refusal> {
+        Show::rewind(self, &mut stores.first, inputs)
+    }
+
+    fn ask<S: Store>(&self, stores: &Twins<S>, question: Question) -> Result<u128, Refusal> {
+        Show::ask(self, &stores.first, question).map(u128::from)
+    }
+
+    fn lines<S: Store>(&self, stores: &Twins<S>) -> Result<Lines, Refusal> {
+        let line = Show::line(self, &stores.first)?;
+        Ok(Lines::One(u128::from(line)))
+    }
+}
+
+impl Performance for Rehearsal<'_> {
+    fn tick<S: Store>(&mut self, stores: &mut Twins<S>, k: u32) -> Result<Ticked, Refusal> {
+        Rehearsal::tick(self, &mut stores.first, k)
+    }
+
+    fn correct<S: Store>(
+        &mut self,
+        stores: &mut Twins<S>,
+        register: usize,
+        value: u32,
+    ) -> Result<(), Refusal> {
+        Rehearsal::correct(self, &mut stores.first, register, value)
+    }
+
+    fn rewind<S: Store>(&mut self, stores: &mut Twins<S>, inputs: &[u32]) -> Result<(), Refusal> {
+        Rehearsal::rewind(self, &mut stores.first, inputs)
+    }
+
+    fn ask<S: Store>(&self, stores: &Twins<S>, question: Question) -> Result<u128, Refusal> {
+        Rehearsal::ask(self, &stores.first, question)
+    }
+
+    fn lines<S: Store>(&self, stores: &Twins<S>) -> Result<Lines, Refusal> {
+        Rehearsal::line(self, &stores.first).map(Lines::One)
+    }
+}
+
+// Makes a call, and answers it.
+pub fn make_call<P: Performance, S: Store>(
+    run: &mut P,
+    stores: &mut Twins<S>,
     call: &Call,
 ) -> Result<Answer, Refusal> {
     match call {
         Call::Tick(k) => {
-            let ticked = show.tick(store, *k)?;
-            let line = show.line(store)? as u128;
-            Ok(Answer::Ticked(ticked, line))
+            let ticked = run.tick(stores, *k)?;
+            Ok(Answer::Ticked(ticked, run.lines(stores)?))
         }
         Call::Correct { register, value } => {
-            show.correct(store, *register, *value)?;
-            line_of_show(show, store)
+            run.correct(stores, *register, *value)?;
+            done(run, stores)
         }
         Call::Rewind(inputs) => {
-            show.rewind(store, inputs.as_slice())?;
-            line_of_show(show, store)
+            run.rewind(stores, inputs.as_slice())?;
+            done(run, stores)
         }
-        Call::Ask(question) => Ok(Answer::Number(show.ask(store, *question)? as u128)),
+        Call::Ask(question) => run.ask(stores, *question).map(Answer::Number),
     }
 }
 
-pub fn line_of_show<S: Store>(show: &Show<'_>, store: &S) -> Result<Answer, Refusal> {
-    Ok(Answer::Done(show.line(store)? as u128))
-}
-
-pub fn call_rehearsal<S: Store>(
-    rehearsal: &mut Rehearsal<'_>,
-    store: &mut S,
-    call: &Call,
-) -> Result<Answer, Refusal> {
-    match call {
-        Call::Tick(k) => {
-            let ticked = rehearsal.tick(store, *k)?;
-            Ok(Answer::Ticked(ticked, rehearsal.line(store)?))
-        }
-        Call::Correct { register, value } => {
-            rehearsal.correct(store, *register, *value)?;
-            line_of_rehearsal(rehearsal, store)
-        }
-        Call::Rewind(inputs) => {
-            rehearsal.rewind(store, inputs.as_slice())?;
-            line_of_rehearsal(rehearsal, store)
-        }
-        Call::Ask(question) => Ok(Answer::Number(rehearsal.ask(store, *question)?)),
-    }
-}
-
-pub fn line_of_rehearsal<S: Store>(
-    rehearsal: &Rehearsal<'_>,
-    store: &S,
-) -> Result<Answer, Refusal> {
-    Ok(Answer::Done(rehearsal.line(store)?))
+// The answer to a call that gives nothing else.
+pub fn done<P: Performance, S: Store>(run: &P, stores: &Twins<S>) -> Result<Answer, Refusal> {
+    run.lines(stores).map(Answer::Done)
 }

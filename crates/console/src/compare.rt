@@ -1,78 +1,81 @@
 // A show with a rehearsal beside it: after each call the rehearsal goes on to the show's written steps, and the two are
 // compared. Each has a store of its own.
-use crate::answer::{Answer, Comparison};
-use crate::line::Call;
+use crate::answer::{Comparison, Lines};
+use crate::calls::Performance;
+use crate::twins::Twins;
 use caption_box::rehearsal::Rehearsal;
 use caption_box::show::Show;
-use caption_box::types::{Question, Tally};
+use caption_box::types::{Question, Tally, Ticked};
 use reader::types::Refusal;
 use stores::store::Store;
 
 const WRITTEN: Question = Question::Tally(Tally::WrittenSteps);
 
-// The show, on a store, and the rehearsal, on the twin of that store.
+// The show, on the first store, and the rehearsal, on the second.
 #[derive(Drop)]
 pub struct Pair<'c> {
     pub show: Show<'c>,
     pub rehearsal: Rehearsal<'c>,
 }
 
-impl<'c> Pair<'c> {
-    // Makes a call to both; a call that the show refuses does not reach the rehearsal.
-    pub fn call<S: Store, T: Store>(
+// A call that the show refuses does not reach the rehearsal, and a question is the show's to answer.
+impl Performance for Pair<'_> {
+    fn tick<S: Store>(&mut self, stores: &mut Twins<S>, k: u32) -> Result<Ticked, Refusal> {
+        let ticked = self.show.tick(&mut stores.first, k)?;
+        let behind = self.behind(stores)?;
+        self.rehearsal.tick(&mut stores.second, behind)?;
+        Ok(ticked)
+    }
+
+    fn correct<S: Store>(
         &mut self,
-        store: &mut S,
-        twin: &mut T,
-        call: &Call,
-    ) -> Result<Answer, Refusal> {
-        match call {
-            Call::Tick(k) => {
-                let ticked = self.show.tick(store, *k)?;
-                let behind = self.behind(store, twin)?;
-                self.rehearsal.tick(twin, behind)?;
-                Ok(Answer::TickedBoth(ticked, self.compare(store, twin)?))
-            }
-            Call::Correct { register, value } => {
-                self.show.correct(store, *register, *value)?;
-                self.rehearsal.correct(twin, *register, *value)?;
-                self.lines(store, twin)
-            }
-            Call::Rewind(inputs) => {
-                self.show.rewind(store, inputs.as_slice())?;
-                self.rehearsal.rewind(twin, inputs.as_slice())?;
-                self.lines(store, twin)
-            }
-            Call::Ask(question) => Ok(Answer::Number(self.show.ask(store, *question)? as u128)),
-        }
+        stores: &mut Twins<S>,
+        register: usize,
+        value: u32,
+    ) -> Result<(), Refusal> {
+        self.show.correct(&mut stores.first, register, value)?;
+        self.rehearsal.correct(&mut stores.second, register, value)
     }
 
-    // The lines of both.
-    pub fn lines<S: Store, T: Store>(&self, store: &S, twin: &T) -> Result<Answer, Refusal> {
-        Ok(Answer::DoneBoth(self.compare(store, twin)?))
+    fn rewind<S: Store>(&mut self, stores: &mut Twins<S>, inputs: &[u32]) -> Result<(), Refusal> {
+        self.show.rewind(&mut stores.first, inputs)?;
+        self.rehearsal.rewind(&mut stores.second, inputs)
     }
 
+    fn ask<S: Store>(&self, stores: &Twins<S>, question: Question) -> Result<u128, Refusal> {
+        self.show.ask(&stores.first, question).map(u128::from)
+    }
+
+    fn lines<S: Store>(&self, stores: &Twins<S>) -> Result<Lines, Refusal> {
+        self.compare(stores).map(Lines::Both)
+    }
+}
+
+impl Pair<'_> {
     // How many written steps the rehearsal is behind; after a tick of the show they are within one tick.
-    fn behind<S: Store, T: Store>(&self, store: &S, twin: &T) -> Result<u32, Refusal> {
-        let goal = self.show.ask(store, WRITTEN)? as u128;
-        let done = self.rehearsal.ask(twin, WRITTEN)?;
+    fn behind<S: Store>(&self, stores: &Twins<S>) -> Result<u32, Refusal> {
+        let goal = u128::from(self.show.ask(&stores.first, WRITTEN)?);
+        let done = self.rehearsal.ask(&stores.second, WRITTEN)?;
         Ok(u32::try_from(goal.saturating_sub(done)).unwrap_or(u32::MAX))
     }
 
     // Whether x0 to x31 and the written steps of both are the same.
-    fn compare<S: Store, T: Store>(&self, store: &S, twin: &T) -> Result<Comparison, Refusal> {
-        let written = self.rehearsal.ask(twin, WRITTEN)?;
-        let mut agrees = self.show.ask(store, WRITTEN)? as u128 == written;
+    fn compare<S: Store>(&self, stores: &Twins<S>) -> Result<Comparison, Refusal> {
+        let mut agrees = self.is_same(stores, WRITTEN)?;
         for i in 0..32 {
-            let register = Question::Register(i);
-            if self.show.ask(store, register)? as u128 != self.rehearsal.ask(twin, register)? {
-                agrees = false;
-            }
+            agrees &= self.is_same(stores, Question::Register(i))?;
         }
         Ok(Comparison {
-            line: self.show.line(store)? as u128,
-            sheet_line: self.rehearsal.line(twin)?,
-            written,
+            line: u128::from(self.show.line(&stores.first)?),
+            sheet_line: self.rehearsal.line(&stores.second)?,
+            written: self.rehearsal.ask(&stores.second, WRITTEN)?,
             agrees,
         })
+    }
+
+    // Whether both give the same answer to a question.
+    fn is_same<S: Store>(&self, stores: &Twins<S>, question: Question) -> Result<bool, Refusal> {
+        let shown = u128::from(self.show.ask(&stores.first, question)?);
+        Ok(shown == self.rehearsal.ask(&stores.second, question)?)
     }
 }

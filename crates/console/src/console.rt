@@ -1,11 +1,12 @@
 // The lines of a script, one after another.
 ghost use Rattle.std.specs.Prelude.{◌+◌, ◌≤◌, length, is_some, IfOk, if◌then◌else◌};
 
-use crate::answer::Answer;
+use crate::answer::{Answer, NotDone};
 use crate::desk::Desk;
 use crate::line::{Line, Make, parse};
 use crate::run::Run;
 use crate::script::Script;
+use crate::twins::Twins;
 use crate::view::View;
 use reader::types::ZERO_RECORD;
 use std::alloc::Global;
@@ -24,23 +25,25 @@ pub fn run_script(out: &mut impl Write, heap: Global, text: &[u8]) -> anyhow::Re
     // A sheet has six bytes before it, and a record for each eight of its own is enough (`room_for`).
     let mut records = vec![in heap; ZERO_RECORD; text.len() / 3 + 1]?;
     let mut none = [];
-    let mut store = FlatStore::new(&mut none);
     let mut no_twin = [];
-    let mut twin = FlatStore::new(&mut no_twin);
+    let mut stores = Twins {
+        first: FlatStore::new(&mut none),
+        second: FlatStore::new(&mut no_twin),
+    };
     let mut script = Script::new(text);
     let desk = Desk {
         run: Run::Bare(&mut code),
         view: None,
         records: records.as_mut_slice(),
     };
-    let (mut desk, mut next) = play(out, heap, &mut script, desk, &mut store, &mut twin)?;
+    let (mut desk, mut next) = play(out, heap, &mut script, desk, &mut stores)?;
     while let Some(make) = next {
         (desk, next) = play_over(out, heap, &mut script, desk, make)?;
     }
     Ok(())
 }
 
-// Makes the store and its twin, which a rehearsal beside a show is given, answers the line, and plays over them.
+// Makes the stores, answers the line, and plays on them.
 fn play_over<'c>(
     out: &mut impl Write,
     heap: Global,
@@ -50,29 +53,43 @@ fn play_over<'c>(
 ) -> anyhow::Result<(Desk<'c>, Option<Make>)>
     ensures { IfOk result (λ p. length script.new.rest.now + (if is_some p.1 then 1 else 0) ≤ length script.old.rest.now) }
 {
-    let Desk { run, records, .. } = desk;
     let view = Some(View::whole());
-    let desk = Desk { run, view, records };
+    let desk = Desk { view, ..desk };
     match make {
         Make::Flat(count) => {
             let mut cells = vec![in heap; 0u32; count.min(MOST)]?;
             let mut twin_cells = vec![in heap; 0u32; count.min(MOST)]?;
-            let mut store = FlatStore::new(cells.as_mut_slice());
-            let mut twin = FlatStore::new(twin_cells.as_mut_slice());
-            let answer = Answer::of_store(&store);
-            writeln!(out, "{answer}")?;
-            play(out, heap, script, desk, &mut store, &mut twin)
+            let stores = Twins {
+                first: FlatStore::new(cells.as_mut_slice()),
+                second: FlatStore::new(twin_cells.as_mut_slice()),
+            };
+            play_on(out, heap, script, desk, stores)
         }
         Make::Decimal(count) => {
             let mut bytes = vec![in heap; 0u8; 6 * count.min(MOST)]?;
             let mut twin_bytes = vec![in heap; 0u8; 6 * count.min(MOST)]?;
-            let mut store = DecimalStore::new(bytes.as_mut_slice());
-            let mut twin = DecimalStore::new(twin_bytes.as_mut_slice());
-            let answer = Answer::of_store(&store);
-            writeln!(out, "{answer}")?;
-            play(out, heap, script, desk, &mut store, &mut twin)
+            let stores = Twins {
+                first: DecimalStore::new(bytes.as_mut_slice()),
+                second: DecimalStore::new(twin_bytes.as_mut_slice()),
+            };
+            play_on(out, heap, script, desk, stores)
         }
     }
+}
+
+// Answers the line that made the stores, and plays on them.
+fn play_on<'c, S: Store + Drop>(
+    out: &mut impl Write,
+    heap: Global,
+    script: &mut Script<'_>,
+    desk: Desk<'c>,
+    mut stores: Twins<S>,
+) -> anyhow::Result<(Desk<'c>, Option<Make>)>
+    ensures { IfOk result (λ p. length script.new.rest.now + (if is_some p.1 then 1 else 0) ≤ length script.old.rest.now) }
+{
+    let answer = Answer::of_store(&stores.first);
+    writeln!(out, "{answer}")?;
+    play(out, heap, script, desk, &mut stores)
 }
 
 // Answers the lines of the script up to one that makes a store, and hands out what that line makes. Its answer is still to
@@ -82,8 +99,7 @@ fn play<'c, S: Store>(
     heap: Global,
     script: &mut Script<'_>,
     mut desk: Desk<'c>,
-    store: &mut S,
-    twin: &mut S,
+    stores: &mut Twins<S>,
 ) -> anyhow::Result<(Desk<'c>, Option<Make>)>
     ensures { IfOk result (λ p. length script.new.rest.now + (if is_some p.1 then 1 else 0) ≤ length script.old.rest.now) }
 {
@@ -94,14 +110,17 @@ fn play<'c, S: Store>(
             continue;
         }
         write!(out, "{line} -> ")?;
-        let (after, answer) = match parse(heap, line) {
+        let (after, reply) = match parse(heap, line) {
             Ok(Line::Store(make)) => return Ok((desk, Some(make))),
             Ok(Line::Sheet) => desk.load(script.next_sheet()),
-            Ok(Line::Order(order)) => desk.obey(store, twin, order),
-            Err(bad) => (desk, Answer::Bad(bad)),
+            Ok(Line::Order(order)) => desk.obey(stores, order),
+            Err(bad) => (desk, Err(NotDone::Bad(bad))),
         };
         desk = after;
-        writeln!(out, "{answer}")?;
+        match reply {
+            Ok(answer) => writeln!(out, "{answer}")?,
+            Err(cause) => writeln!(out, "{cause}")?,
+        }
     }
     Ok((desk, None))
 }

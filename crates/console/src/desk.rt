@@ -1,11 +1,11 @@
 // What stays from line to line besides the store.
-use crate::answer::Answer;
+use crate::answer::{Answer, NotDone, Reply};
 use crate::line::{Call, Kind, Order};
 use crate::run::Run;
+use crate::twins::Twins;
 use crate::view::View;
 use reader::types::{Placed, Statement};
 use stores::store::Store;
-use stores::window::Window;
 
 // The run, the part of the store that its calls are given (there is none before a store is made), and memory for the
 // statements of the sheets to come.
@@ -18,19 +18,19 @@ pub struct Desk<'c> {
 
 impl<'c> Desk<'c> {
     // Loads a sheet, if the script had a whole one.
-    pub fn load(self, sheet: Option<&[u8]>) -> (Desk<'c>, Answer) {
+    pub fn load(self, sheet: Option<&[u8]>) -> (Desk<'c>, Reply) {
         let Some(text) = sheet else {
-            return (self, Answer::Unfinished);
+            return (self, Err(NotDone::Unfinished));
         };
         let Desk { run, view, records } = self;
         let room = room_for(text).min(records.len());
         let (front, records) = records.split_at_mut(room);
-        let (run, answer) = run.load(text, front);
-        (Desk { run, view, records }, answer)
+        let (run, reply) = run.load(text, front);
+        (Desk { run, view, records }, reply)
     }
 
-    // Does what a line says on the store, and answers it.
-    pub fn obey<S: Store>(self, store: &mut S, twin: &mut S, order: Order) -> (Desk<'c>, Answer) {
+    // Does what a line says on the stores, and answers it.
+    pub fn obey<S: Store>(self, stores: &mut Twins<S>, order: Order) -> (Desk<'c>, Reply) {
         let Desk {
             mut run,
             view,
@@ -38,16 +38,16 @@ impl<'c> Desk<'c> {
         } = self;
         match order {
             Order::Window { base, length } => {
-                let (view, answer) = narrow(view, store, base, length);
-                (Desk { run, view, records }, answer)
+                let (view, reply) = narrow(view, stores, base, length);
+                (Desk { run, view, records }, reply)
             }
             Order::Start(kind, inputs) => {
-                let (run, answer) = start(run, view, kind, store, twin, inputs.as_slice());
-                (Desk { run, view, records }, answer)
+                let (run, reply) = start(run, view, kind, stores, inputs.as_slice());
+                (Desk { run, view, records }, reply)
             }
             Order::Call(call) => {
-                let answer = pass_on(&mut run, view, store, twin, &call);
-                (Desk { run, view, records }, answer)
+                let reply = pass_on(&mut run, view, stores, &call);
+                (Desk { run, view, records }, reply)
             }
         }
     }
@@ -61,53 +61,37 @@ pub fn room_for(text: &[u8]) -> usize {
 // Puts a window over the one that there is.
 fn narrow<S: Store>(
     view: Option<View>,
-    store: &mut S,
+    stores: &mut Twins<S>,
     base: usize,
     length: usize,
-) -> (Option<View>, Answer) {
+) -> (Option<View>, Reply) {
     let Some(view) = view else {
-        return (None, Answer::NoStore);
+        return (None, Err(NotDone::NoStore));
     };
     let view = view.narrowed(base, length);
-    let window = Window::open(store, view.base, view.length);
-    let answer = Answer::of_store(&window);
-    window.close();
-    (Some(view), answer)
+    let windows = stores.windows(view);
+    (Some(view), Ok(Answer::of_store(&windows.first)))
 }
 
 fn start<'c, S: Store>(
     run: Run<'c>,
     view: Option<View>,
     kind: Kind,
-    store: &mut S,
-    twin: &mut S,
+    stores: &mut Twins<S>,
     inputs: &[u32],
-) -> (Run<'c>, Answer) {
-    let Some(view) = view else {
-        return (run, Answer::NoStore);
-    };
-    let mut window = Window::open(store, view.base, view.length);
-    let mut beside = Window::open(twin, view.base, view.length);
-    let started = run.start(kind, &mut window, &mut beside, inputs);
-    window.close();
-    beside.close();
-    started
+) -> (Run<'c>, Reply) {
+    match view {
+        Some(view) => run.start(kind, &mut stores.windows(view), inputs),
+        None => (run, Err(NotDone::NoStore)),
+    }
 }
 
 fn pass_on<S: Store>(
     run: &mut Run<'_>,
     view: Option<View>,
-    store: &mut S,
-    twin: &mut S,
+    stores: &mut Twins<S>,
     call: &Call,
-) -> Answer {
-    let Some(view) = view else {
-        return Answer::NoRun;
-    };
-    let mut window = Window::open(store, view.base, view.length);
-    let mut beside = Window::open(twin, view.base, view.length);
-    let answer = run.call(&mut window, &mut beside, call);
-    window.close();
-    beside.close();
-    answer
+) -> Reply {
+    let view = view.ok_or(NotDone::NoRun)?;
+    run.call(&mut stores.windows(view), call)
 }

@@ -3,9 +3,9 @@ ghost use Rattle.std.specs.Prelude.{◌≡◌, ◌<◌, MatchResult};
 
 use crate::number::{number, steps};
 use caption_box::types::{Question, Tally};
-use std::alloc::{AllocError, AllocFailed, Global};
-use std::fmt;
+use std::alloc::{AllocError, Global};
 use std::str::SplitWhitespace;
+use thiserror::Error;
 
 // A line: a store is made, a sheet begins, or something is done on the store that there is.
 #[derive(Drop)]
@@ -48,38 +48,16 @@ pub enum Call {
 }
 
 // What is wrong with a line; `Form` has how such a line is written.
-#[derive(Clone, Copy, Debug)]
+#[derive(Clone, Copy, Debug, Drop, Error)]
 pub enum BadLine {
+    #[error("no such call; there are sheet, store, window, start, rehearse, compare, tick, correct, rewind and ask")]
     Unknown,
+    #[error("not understood; write {0}")]
     Form(&'static str),
+    #[error("a number to store is at most 4294967295")]
     TooLarge,
-    Memory,
-}
-
-impl From<AllocError> for BadLine {
-    fn from(_e: AllocError) -> BadLine {
-        BadLine::Memory
-    }
-}
-
-impl<T: Drop> From<AllocFailed<T>> for BadLine {
-    fn from(_e: AllocFailed<T>) -> BadLine {
-        BadLine::Memory
-    }
-}
-
-impl fmt::Display for BadLine {
-    fn fmt<W: fmt::Write>(&self, f: &mut fmt::Formatter<W>) -> fmt::Result {
-        match *self {
-            BadLine::Unknown => write!(
-                f,
-                "no such call; there are sheet, store, window, start, rehearse, compare, tick, correct, rewind and ask"
-            ),
-            BadLine::Form(form) => write!(f, "not understood; write {form}"),
-            BadLine::TooLarge => write!(f, "a number to store is at most 4294967295"),
-            BadLine::Memory => write!(f, "there is no memory for it"),
-        }
-    }
+    #[error("there is no memory for it")]
+    Memory(#[from(alloc)] AllocError),
 }
 
 // Parses a line.
@@ -129,7 +107,7 @@ fn sheet(mut words: SplitWhitespace<'_>) -> Result<Line, BadLine> {
 fn store(mut words: SplitWhitespace<'_>) -> Result<Line, BadLine> {
     let form = BadLine::Form("store flat COUNT or store decimal COUNT");
     let kind = words.next().unwrap_or("");
-    let count = last_number(words).ok_or(form)? as usize;
+    let count = last_number(words).ok_or(form)?;
     match kind {
         "flat" => Ok(Line::Store(Make::Flat(count))),
         "decimal" => Ok(Line::Store(Make::Decimal(count))),
@@ -139,8 +117,8 @@ fn store(mut words: SplitWhitespace<'_>) -> Result<Line, BadLine> {
 
 fn window(mut words: SplitWhitespace<'_>) -> Result<Line, BadLine> {
     let form = BadLine::Form("window BASE LENGTH, both numbers");
-    let base = number(words.next().unwrap_or("")).ok_or(form)? as usize;
-    let length = last_number(words).ok_or(form)? as usize;
+    let base = number(words.next().unwrap_or("")).ok_or(form)?;
+    let length = last_number(words).ok_or(form)?;
     Ok(Line::Order(Order::Window { base, length }))
 }
 
@@ -188,20 +166,19 @@ fn inputs(
 }
 
 // A number that a register is to hold.
-fn value(number: u64) -> Result<u32, BadLine>
+fn value(number: usize) -> Result<u32, BadLine>
     ensures { MatchResult result (λ v. v ≡ number) (λ e. (e ≡ BadLine.TooLarge) × (4294967295 < number)) }
 {
-    u32::try_from(number).or(Err(BadLine::TooLarge))
+    u32::try_from(number).map_err(|_| BadLine::TooLarge)
 }
 
 // The register that a word as x12 names.
 fn register(word: &str) -> Option<usize> {
-    let index = number(word.strip_prefix('x')?)?;
-    Some(index as usize)
+    number(word.strip_prefix('x')?)
 }
 
 // The number that the only word left gives.
-fn last_number(mut words: SplitWhitespace<'_>) -> Option<u64> {
+fn last_number(mut words: SplitWhitespace<'_>) -> Option<usize> {
     let word = words.next()?;
     if words.next().is_some() {
         return None;

@@ -10,6 +10,7 @@ mod line;
 mod number;
 mod run;
 mod script;
+mod twins;
 mod view;
 
 use anyhow::anyhow;
@@ -34,10 +35,9 @@ fn script_text(rt: &HostRuntime) -> anyhow::Result<Vec<u8>> {
     let mut args = env::args(rt)?;
     let _program = args.next();
     match args.next() {
-        Some(path) => match fs::read(rt, path.as_str()) {
-            Ok(text) => Ok(text),
-            Err(e) => Err(anyhow!(format!(in rt.alloc(); "cannot read {path}: {e}")?)),
-        },
+        Some(path) => {
+            fs::read(rt, path.as_str()).map_err(|e| anyhow!("cannot read {path}: {e}"))
+        }
         None => {
             let mut text = Vec::new(rt.alloc());
             rt.stdin().read_to_end(&mut text)?;

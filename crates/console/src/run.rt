@@ -1,10 +1,11 @@
 // What the calls go to: a show, a rehearsal, or both beside each other.
 ghost use Rattle.std.specs.Prelude.{◌≤◌, length};
 
-use crate::answer::{Answer, Counts};
-use crate::calls::{call_rehearsal, call_show, line_of_rehearsal, line_of_show};
+use crate::answer::{Answer, Counts, NotDone, Reply};
+use crate::calls::{done, make_call};
 use crate::compare::Pair;
 use crate::line::{Call, Kind};
+use crate::twins::Twins;
 use caption_box::rehearsal::Rehearsal;
 use caption_box::show::Show;
 use reader::types::{Kind as StatementKind, Placed, Statement};
@@ -64,91 +65,84 @@ impl<'c> Run<'c> {
     }
 
     // Loads a sheet in the place of what there was.
-    pub fn load(self, text: &[u8], records: &'c mut [Placed<Statement>]) -> (Run<'c>, Answer) {
+    pub fn load(self, text: &[u8], records: &'c mut [Placed<Statement>]) -> (Run<'c>, Reply) {
         load_into(self.cleared(), records, text)
     }
 
     // Starts a run in the place of the one that there is, if any.
-    pub fn start<S: Store, T: Store>(
+    pub fn start<S: Store>(
         self,
         kind: Kind,
-        store: &mut S,
-        twin: &mut T,
+        stores: &mut Twins<S>,
         inputs: &[u32],
-    ) -> (Run<'c>, Answer) {
+    ) -> (Run<'c>, Reply) {
         match self.put_away() {
             Run::Loaded(loaded) => match kind {
-                Kind::Show => loaded.start_show(store, inputs),
-                Kind::Rehearsal => loaded.start_rehearsal(store, inputs),
-                Kind::Both => loaded.start_both(store, twin, inputs),
+                Kind::Show => loaded.start_show(stores, inputs),
+                Kind::Rehearsal => loaded.start_rehearsal(stores, inputs),
+                Kind::Both => loaded.start_both(stores, inputs),
             },
-            bare => (bare, Answer::NoSheet),
+            bare => (bare, Err(NotDone::NoSheet)),
         }
     }
 
     // Passes a call on to what runs.
-    pub fn call<S: Store, T: Store>(&mut self, store: &mut S, twin: &mut T, call: &Call) -> Answer {
+    pub fn call<S: Store>(&mut self, stores: &mut Twins<S>, call: &Call) -> Reply {
         let answer = match self {
-            Run::Bare(_) => return Answer::NoRun,
-            Run::Loaded(_) => return Answer::NoRun,
-            Run::Showing(show, _) => call_show(show, store, call),
-            Run::Rehearsing(rehearsal, _) => call_rehearsal(rehearsal, store, call),
-            Run::Comparing(pair) => pair.call(store, twin, call),
+            Run::Bare(_) | Run::Loaded(_) => return Err(NotDone::NoRun),
+            Run::Showing(show, _) => make_call(show, stores, call)?,
+            Run::Rehearsing(rehearsal, _) => make_call(rehearsal, stores, call)?,
+            Run::Comparing(pair) => make_call(pair, stores, call)?,
         };
-        Answer::of(answer)
+        Ok(answer)
     }
 }
 
 impl<'c> Loaded<'c> {
-    fn start_show<S: Store>(self, store: &mut S, inputs: &[u32]) -> (Run<'c>, Answer) {
+    fn start_show<S: Store>(self, stores: &mut Twins<S>, inputs: &[u32]) -> (Run<'c>, Reply) {
         let Loaded { sealed, records } = self;
-        match Show::start(sealed, store, inputs) {
+        match Show::start(sealed, &mut stores.first, inputs) {
             Ok(show) => {
-                let answer = Answer::of(line_of_show(&show, store));
-                (Run::Showing(show, records), answer)
+                let reply = done(&show, stores).map_err(NotDone::Refused);
+                (Run::Showing(show, records), reply)
             }
             Err(refused) => {
                 let loaded = Loaded {
                     sealed: refused.sealed,
                     records,
                 };
-                (Run::Loaded(loaded), Answer::Refused(refused.refusal))
+                (Run::Loaded(loaded), Err(NotDone::Refused(refused.refusal)))
             }
         }
     }
 
-    fn start_rehearsal<S: Store>(self, store: &mut S, inputs: &[u32]) -> (Run<'c>, Answer) {
+    fn start_rehearsal<S: Store>(self, stores: &mut Twins<S>, inputs: &[u32]) -> (Run<'c>, Reply) {
         let Loaded { sealed, records } = self;
-        match Rehearsal::start(records, store, inputs) {
+        match Rehearsal::start(records, &mut stores.first, inputs) {
             Ok(rehearsal) => {
-                let answer = Answer::of(line_of_rehearsal(&rehearsal, store));
-                (Run::Rehearsing(rehearsal, sealed), answer)
+                let reply = done(&rehearsal, stores).map_err(NotDone::Refused);
+                (Run::Rehearsing(rehearsal, sealed), reply)
             }
             Err(refusal) => (
                 Run::Loaded(Loaded { sealed, records }),
-                Answer::Refused(refusal),
+                Err(NotDone::Refused(refusal)),
             ),
         }
     }
 
-    // A show on the store, and a rehearsal on its twin.
-    fn start_both<S: Store, T: Store>(
-        self,
-        store: &mut S,
-        twin: &mut T,
-        inputs: &[u32],
-    ) -> (Run<'c>, Answer) {
-        let (run, answer) = self.start_show(store, inputs);
+    // A show on the first store, and a rehearsal on the second.
+    fn start_both<S: Store>(self, stores: &mut Twins<S>, inputs: &[u32]) -> (Run<'c>, Reply) {
+        let (run, reply) = self.start_show(stores, inputs);
         let Run::Showing(show, records) = run else {
-            return (run, answer);
+            return (run, reply);
         };
-        match Rehearsal::start(records, twin, inputs) {
+        match Rehearsal::start(records, &mut stores.second, inputs) {
             Ok(rehearsal) => {
                 let pair = Pair { show, rehearsal };
-                let answer = Answer::of(pair.lines(store, twin));
-                (Run::Comparing(pair), answer)
+                let reply = done(&pair, stores).map_err(NotDone::Refused);
+                (Run::Comparing(pair), reply)
             }
-            Err(refusal) => (Run::Showing(show, records), Answer::Refused(refusal)),
+            Err(refusal) => (Run::Showing(show, records), Err(NotDone::Refused(refusal))),
         }
     }
 }
@@ -157,7 +151,7 @@ fn load_into<'c>(
     memory: &'c mut [Instruction],
     records: &'c mut [Placed<Statement>],
     text: &[u8],
-) -> (Run<'c>, Answer) {
+) -> (Run<'c>, Reply) {
     let mut flats = [ZERO_FLAT; 320];
     match load(text, records, &mut flats, memory) {
         Ok(sealed) => {
@@ -168,9 +162,11 @@ fn load_into<'c>(
                 instructions: sealed.len(),
                 registers: sealed.registers(),
             });
-            (Run::Loaded(Loaded { sealed, records }), answer)
+            (Run::Loaded(Loaded { sealed, records }), Ok(answer))
         }
-        Err(RefusedLoad { fault, code }) => (Run::Bare(code), Answer::RefusedAt(fault.cause)),
+        Err(RefusedLoad { fault, code }) => {
+            (Run::Bare(code), Err(NotDone::RefusedAt(fault.cause)))
+        }
     }
 }
 
@@ -183,11 +179,8 @@ fn sheet_of<'c>(records: &'c [Placed<Statement>]) -> &'c [Placed<Statement>] {
 fn statements(records: &[Placed<Statement>]) -> usize
     ensures { result ≤ length records.now }
 {
-    let mut count = 0;
-    for record in records {
-        if record.item.kind != StatementKind::Zero {
-            count += 1;
-        }
-    }
-    count
+    records
+        .iter()
+        .filter(|record| record.item.kind != StatementKind::Zero)
+        .count()
 }
