@@ -1,5 +1,5 @@
 -- Laying the code of flat statements.
-use Rattle.std.proofs.Common.{◌≡◌, ℕ, zero, suc, ◌+◌, ◌-◌, ◌^◌, ◌<◌, ◌≤◌, T, List, [], ◌∷◌, ◌++◌, map, length, get_or, take, set, replicate, Ok, Err, Result, sym, refl, ap, ◌∙◌, subst, add-zero, arith, length-append, length-set, MatchResult}
+use Rattle.std.proofs.Common.{◌≡◌, ℕ, zero, suc, ◌+◌, ◌-◌, ◌<◌, ◌≤◌, T, List, [], ◌∷◌, ◌++◌, map, length, get_or, take, set, replicate, Ok, Err, Result, sym, refl, ap, ◌∙◌, subst, add-zero, arith, length-append, length-set, MatchResult}
 use mathlib.Core.Option.{some}
 use lib.ListN.{get_elem?, length-replicate}
 use Rattle.std.proofs.lemmas.List.{take_at}
@@ -7,7 +7,7 @@ use Rattle.reader.specs.Sheet.{Sheet}
 use Rattle.filing.specs.Tables.{overwrite}
 use Rattle.reader.specs.declared.types.Placed.{Placed}
 use Rattle.reader.specs.declared.types.Refusal.{Refusal}
-use Rattle.reader.specs.declared.types.Refusal.TheVariants.{NotOpen}
+use Rattle.reader.specs.declared.types.Refusal.TheVariants.{CodeFull, NotOpen}
 use Rattle.reader.specs.declared.types.Kind.{Kind}
 use Rattle.reader.specs.declared.types.Kind.TheVariants as kind
 use Rattle.reader.specs.Symbols.{placed}
@@ -21,7 +21,7 @@ use Rattle.translator.specs.declared.types.Flat.{Flat}
 use Rattle.translator.specs.JumpCode.{instruction, halt}
 use Rattle.translator.specs.Translation.{FlatSheet, flat_done, flat_plus, flat_minus, flat_while, flat, flat_size, code_size, lay, compiled, flat_records_from}
 use Rattle.translator.specs.Drafts.{draft_memory, laid, laid_code, next_label, is_open, OpenAt, aimed, Appended, Replaced, Unchanged, Cleared, Full}
-use Rattle.translator.specs.Laying.{Stands, FlatSpan, assigned, CodeLaid, CodeLeft, StatementLaid, NoRoom, Coded}
+use Rattle.translator.specs.Laying.{Stands, FlatSpan, assigned, CodeLaid, CodeLeft, StatementLaid, RoundLaid, NoRoom, NoRoomForRound, Coded}
 use Rattle.reader.proofs.Overwriting.{length-overwrite, overwrite_append}
 use Rattle.translator.proofs.Overwriting.{patched, kept, take-overwrite}
 use Rattle.translator.proofs.Filing.{length-filed, get_or-filed}
@@ -154,11 +154,13 @@ looped rs a b (flat_while r i p f) k s l =
 
 -- memory
 
-pub label_next : (d : Draft) → length (draft_memory d) < 2 ^ 60 → next_label d ≡ suc (laid d)
-label_next d h = omega arith
-
 pub appended_room : (x : Instruction) (d e : Draft) → Appended x d e → length (draft_memory e) ≡ length (draft_memory d)
 appended_room x d e h = ap length h.filled ∙ simp length-set
+
+pub lay_room : (x : Instruction) (d e : Draft) (r : Result (Unit {0}) Refusal)
+    → MatchResult r (λ _. Appended x d e) (λ y. (y ≡ CodeFull) × Full d × Unchanged d e) → length (draft_memory e) ≡ length (draft_memory d)
+lay_room x d e (Ok y) h = appended_room x d e h
+lay_room x d e (Err y) h = ap length h.2.filled
 
 pub replaced_room : (i : ℕ) (x : Instruction) (d e : Draft) → Replaced i x d e → length (draft_memory e) ≡ length (draft_memory d)
 replaced_room i x d e h = ap length h.filled ∙ simp length-set
@@ -183,22 +185,21 @@ after_single rs a b f d e v h =
     }
 
 -- a WHILE is laid: the test, the body, the jump back, and the test closed
-pub record WhileLaid (s at label : ℕ) (r : Role) (p : FlatSheet) (d₀ d₁ d₂ d₃ : Draft) : Type 0 where
-  pub small : length (draft_memory d₀) < 2 ^ 60
+pub record WhileLaid (s at label : ℕ) (r : Role) (p : FlatSheet) (d₀ d₁ d₃ : Draft) : Type 0 where
   pub here : at ≡ laid d₀
   pub top : label ≡ next_label d₀
   pub test : Appended (instruction r (If s 0)) d₀ d₁
-  pub body : CodeLaid p d₁ d₂
-  pub jump : Appended (instruction role.Jump (Goto label)) d₂ d₃
+  pub round : RoundLaid p label d₁ d₃
 
-stands : (s at label : ℕ) (r : Role) (p : FlatSheet) (d₀ d₁ d₂ d₃ : Draft) → WhileLaid s at label r p d₀ d₁ d₂ d₃ → get_or (draft_memory d₃) at halt ≡ instruction r (If s 0)
-stands s at label r p d₀ d₁ d₂ d₃ w =
+stands : (s at label : ℕ) (r : Role) (p : FlatSheet) (d₀ d₁ d₃ : Draft) → WhileLaid s at label r p d₀ d₁ d₃ → get_or (draft_memory d₃) at halt ≡ instruction r (If s 0)
+stands s at label r p d₀ d₁ d₃ w =
     let e₁ = w.test.counted in
     let f₁ = w.test.filled in
-    let e₂ = w.body.counted in
-    let f₂ = w.body.filled in
-    let e₃ = w.jump.counted in
-    let f₃ = w.jump.filled in
+    let d₂ = w.round.between in
+    let e₂ = w.round.body.counted in
+    let f₂ = w.round.body.filled in
+    let e₃ = w.round.back.counted in
+    let f₃ = w.round.back.filled in
     let here = w.here in
     let o = instruction r (If s 0) in
     let g = instruction role.Jump (Goto label) in
@@ -208,46 +209,47 @@ stands s at label r p d₀ d₁ d₂ d₃ w =
     ap (λ (k : ℕ). get_or (draft_memory d₃) k halt) here
     ∙ (ap (λ (k : List Instruction). get_or k (laid d₀) halt) m ∙ kept (draft_memory d₀) (laid d₀) (laid d₂) o g halt c w.test.room (omega arith))
 
-pub still_open : (s at label : ℕ) (r : Role) (p : FlatSheet) (d₀ d₁ d₂ d₃ : Draft) → WhileLaid s at label r p d₀ d₁ d₂ d₃ → OpenAt (laid_code d₃) at
-still_open s at label r p d₀ d₁ d₂ d₃ w =
+pub still_open : (s at label : ℕ) (r : Role) (p : FlatSheet) (d₀ d₁ d₃ : Draft) → WhileLaid s at label r p d₀ d₁ d₃ → OpenAt (laid_code d₃) at
+still_open s at label r p d₀ d₁ d₃ w =
     let e₁ = w.test.counted in
-    let e₂ = w.body.counted in
-    let e₃ = w.jump.counted in
+    let d₂ = w.round.between in
+    let e₂ = w.round.body.counted in
+    let e₃ = w.round.back.counted in
     let here = w.here in
     let long = length-filed d₃.table in
     let below : at < length (laid_code d₃) = omega arith in
-    let is : get_or (laid_code d₃) at halt ≡ instruction r (If s 0) = get_or-filed d₃.table at halt below ∙ stands s at label r p d₀ d₁ d₂ d₃ w in
+    let is : get_or (laid_code d₃) at halt ≡ instruction r (If s 0) = get_or-filed d₃.table at halt below ∙ stands s at label r p d₀ d₁ d₃ w in
     (below, subst (λ (y : Instruction). T (is_open y.operation)) (sym is) tt)
 
-pub past_while : (rs : List (Placed Flat)) (a b at label : ℕ) (f : FlatSheet) (d₀ d₁ d₂ d₃ d₄ : Draft) (v : Looped rs a b f)
-    → WhileLaid (flat_at rs a).statement.source at label (flat_at rs a).role v.body d₀ d₁ d₂ d₃
+pub past_while : (rs : List (Placed Flat)) (a b at label : ℕ) (f : FlatSheet) (d₀ d₁ d₃ d₄ : Draft) (v : Looped rs a b f)
+    → WhileLaid (flat_at rs a).statement.source at label (flat_at rs a).role v.body d₀ d₁ d₃
     → Replaced at (aimed (next_label d₃) (get_or (draft_memory d₃) at halt)) d₃ d₄ → CodeLeft f d₀ v.rest d₄
-past_while rs a b at label f d₀ d₁ d₂ d₃ d₄ v w z =
+past_while rs a b at label f d₀ d₁ d₃ d₄ v w z =
     let s = (flat_at rs a).statement.source in
     let r = (flat_at rs a).role in
     let n = v.size in
     let e₁ = w.test.counted in
     let f₁ = w.test.filled in
-    let e₂ = w.body.counted in
-    let f₂ = w.body.filled in
-    let e₃ = w.jump.counted in
-    let f₃ = w.jump.filled in
+    let d₂ = w.round.between in
+    let e₂ = w.round.body.counted in
+    let f₂ = w.round.body.filled in
+    let e₃ = w.round.back.counted in
+    let f₃ = w.round.back.filled in
     let e₄ = z.counted in
     let f₄ = z.filled in
     let here = w.here in
-    let small = w.small in
     let r₁ = appended_room (instruction r (If s 0)) d₀ d₁ w.test in
     let r₂ : length (draft_memory d₂) ≡ length (draft_memory d₁) = ap length f₂ ∙ length-overwrite (draft_memory d₁) (laid d₁) (lay (suc (laid d₁)) v.body) in
-    let r₃ = appended_room (instruction role.Jump (Goto label)) d₂ d₃ w.jump in
+    let r₃ = appended_room (instruction role.Jump (Goto label)) d₂ d₃ w.round.back in
     let L = suc (suc (suc (laid d₀)) + code_size v.body) in
     let o = instruction r (If s 0) in
     let p = instruction r (If s L) in
     let g = instruction role.Jump (Goto (suc (laid d₀))) in
     let c = lay (suc (suc (laid d₀))) v.body in
-    let top : label ≡ suc (laid d₀) = w.top ∙ label_next d₀ small in
-    let next : next_label d₃ ≡ L = label_next d₃ (omega arith) ∙ omega arith in
+    let top : label ≡ suc (laid d₀) = w.top in
+    let next : next_label d₃ ≡ L = omega arith in
     let q : aimed (next_label d₃) (get_or (draft_memory d₃) at halt) ≡ p =
-    ap (aimed (next_label d₃)) (stands s at label r v.body d₀ d₁ d₂ d₃ w) ∙ ap (λ (k : ℕ). instruction r (If s k)) next in
+    ap (aimed (next_label d₃)) (stands s at label r v.body d₀ d₁ d₃ w) ∙ ap (λ (k : ℕ). instruction r (If s k)) next in
     let m₂ : draft_memory d₂ ≡ overwrite (set (draft_memory d₀) (laid d₀) o) (suc (laid d₀)) c =
     f₂ ∙ (ap (λ (k : List Instruction). overwrite k (laid d₁) (lay (suc (laid d₁)) v.body)) f₁
     ∙ ap (λ (k : ℕ). overwrite (set (draft_memory d₀) (laid d₀) o) k (lay (suc k) v.body)) e₁) in
@@ -317,21 +319,16 @@ single_no_room rs a b f d v h = let n = v.size in omega arith
 pub test_no_room : (rs : List (Placed Flat)) (a b : ℕ) (f : FlatSheet) (d : Draft) → Looped rs a b f → Full d → NoRoom f d
 test_no_room rs a b f d v h = let n = v.size in omega arith
 
-pub body_no_room : (rs : List (Placed Flat)) (a b : ℕ) (f : FlatSheet) (x : Instruction) (d e : Draft) (v : Looped rs a b f) → Appended x d e → NoRoom v.body e → NoRoom f d
-body_no_room rs a b f x d e v h w =
+pub round_no_room : (rs : List (Placed Flat)) (a b : ℕ) (f : FlatSheet) (x : Instruction) (d e : Draft) (v : Looped rs a b f) → Appended x d e → NoRoomForRound v.body e → NoRoom f d
+round_no_room rs a b f x d e v h w =
     let n = v.size in
     let c = h.counted in
     let r = appended_room x d e h in
     omega arith
 
-pub jump_no_room : (rs : List (Placed Flat)) (a b : ℕ) (f : FlatSheet) (x : Instruction) (d e k : Draft) (v : Looped rs a b f)
-    → Appended x d e → CodeLaid v.body e k → length (draft_memory k) ≡ length (draft_memory e) → Full k → NoRoom f d
-jump_no_room rs a b f x d e k v h w q z =
-    let n = v.size in
-    let c = h.counted in
-    let r = appended_room x d e h in
-    let m = w.counted in
-    omega arith
+-- the jump back finds no room behind the body
+pub jump_no_room : (f : FlatSheet) (d e : Draft) → CodeLaid f d e → length (draft_memory e) ≡ length (draft_memory d) → Full e → NoRoomForRound f d
+jump_no_room f d e w r h = let c = w.counted in omega arith
 
 -- the whole code
 

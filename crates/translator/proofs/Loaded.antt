@@ -1,5 +1,5 @@
 -- What a load fills and refuses.
-use Rattle.std.proofs.Common.{◌≡◌, ℕ, suc, ◌-◌, ◌<◌, ◌≤◌, List, [], ◌∷◌, ◌++◌, map, length, replicate, Ok, Err, Result, sym, refl, ap, ◌∙◌, subst, arith, length-append}
+use Rattle.std.proofs.Common.{◌≡◌, ℕ, suc, ◌-◌, ◌<◌, ◌≤◌, List, [], ◌∷◌, ◌++◌, map, length, replicate, Ok, Err, Result, IsErrAnd, MatchResult, sym, refl, ap, ◌∙◌, subst, arith, length-append}
 use lib.ListN.{length-replicate}
 use Rattle.reader.specs.declared.types.Placed.{Placed}
 use Rattle.reader.specs.declared.types.Refusal.{Refusal}
@@ -14,7 +14,8 @@ use Rattle.translator.specs.declared.draft.Draft.{Draft}
 use Rattle.translator.specs.declared.draft.SealedCode.{SealedCode}
 use Rattle.translator.specs.declared.types.Flat.{Flat}
 use Rattle.translator.specs.declared.types.Instruction.{Instruction}
-use Rattle.translator.specs.declared.types.Stage.TheVariants.{Flatten, Lay}
+use Rattle.translator.specs.declared.types.Stage.TheVariants.{Read, Flatten, Lay}
+use Rattle.translator.specs.declared.types.Fault.{Fault}
 use Rattle.translator.specs.JumpCode.{halt}
 use Rattle.translator.specs.Translation.{flat, flat_size, compiled, flat_places, flat_records, flats_with_places}
 use Rattle.translator.specs.Width.{width}
@@ -22,7 +23,7 @@ use Rattle.translator.specs.Drafts.{draft_memory, laid_code, filed, OpenAt}
 use Rattle.translator.specs.Seals.{sealed_width, Sound, SealRefuses, jump_open, bad_draft}
 use Rattle.translator.specs.Laying.{Stands, FlatSpan, Coded}
 use Rattle.translator.specs.Flattening.{RecordSpan, Flattened}
-use Rattle.translator.specs.Loading.{fault, cleared_flats, SpelledSheet, Prepared, Loaded, LoadRefuses, unflattened, unlaid}
+use Rattle.translator.specs.Loading.{fault, cleared_flats, SpelledSheet, Prepared, Loaded, LoadRefuses, unread, unflattened, unlaid}
 use Rattle.translator.proofs.FlatFiled.{same_long}
 use Rattle.translator.proofs.SealedSheets.{sheet_sealed}
 use Rattle.translator.proofs.Width.{code_width}
@@ -37,28 +38,33 @@ pub record ReadSheet (text : List ℕ) (r n : ℕ) (m : List (Placed Statement))
   pub room : size sheet ≤ r
   pub filled : m ≡ with_places places (records sheet) ++ cleared (r - size sheet)
 
-not_ok : {A B : Type 0} (n : A) (e : B) (r : Result A B) → r ≡ Ok n → r ≡ Err e → ⊥
-not_ok n e r a b = let z : ◌≡◌ {A = ℕ} 0 1 = cc in omega arith
+-- what `map_err` makes of a result, where F is what its closure gives
+pub mapped : {A B C : Type 0} (P P' : A → Type 0) (Q : B → Type 0) (Q' : C → Type 0) (r : Result A B) (s : Result A C) (F : B → C → Type 0)
+    → MatchResult r P Q → MatchResult r (λ x. s ≡ Ok x) (λ e. IsErrAnd s (F e)) → ((x : A) → P x → P' x) → ((e : B) (y : C) → Q e → F e y → Q' y) → MatchResult s P' Q'
+mapped P P' Q Q' (Ok x) s F h m p q = subst (λ z. MatchResult z P' Q') (sym m) (p x h)
+mapped P P' Q Q' (Err e) (Ok y) F h m p q = absurd m
+mapped P P' Q Q' (Err e) (Err y) F h m p q = q e y h m
 
-pub read_ok : (text : List ℕ) (room n : ℕ) (r : Result ℕ (Placed Refusal)) (m : List (Placed Statement)) → ReadAnswers text room r m → r ≡ Ok n → ReadSheet text room n m
-read_ok text room n r m (accepted {ys = ys} {p = p} l s h) e =
+read_said : (text : List ℕ) (room : ℕ) (r : Result ℕ (Placed Refusal)) (m : List (Placed Statement)) → ReadAnswers text room r m
+    → MatchResult r (λ n. ReadSheet text room n m) (λ e. ReadAnswers text room (Err e) (cleared room))
+read_said text room r m (accepted {ys = ys} {p = p} l s h) =
     record {
       sheet = p;
       places = heads ys;
       spelled = record { symbols = ys; lexed = l; sheeted = s; places = refl };
-      counted = let same : size p ≡ n = cc in sym same;
+      counted = refl;
       room = h;
       filled = refl;
     }
-read_ok text room n r m (overlong h) e = absurd (not_ok n _ r e refl)
-read_ok text room n r m (faulty l h) e = absurd (not_ok n _ r e refl)
-read_ok text room n r m (tree_full l s h) e = absurd (not_ok n _ r e refl)
+read_said text room r m (overlong h) = overlong h
+read_said text room r m (faulty l h) = faulty l h
+read_said text room r m (tree_full l s h) = tree_full l s h
 
-pub read_err : (text : List ℕ) (room : ℕ) (x : Placed Refusal) (r : Result ℕ (Placed Refusal)) (m : List (Placed Statement)) → ReadAnswers text room r m → r ≡ Err x → m ≡ cleared room
-read_err text room x r m (accepted l s h) e = absurd (not_ok _ x r refl e)
-read_err text room x r m (overlong h) e = refl
-read_err text room x r m (faulty l h) e = refl
-read_err text room x r m (tree_full l s h) e = refl
+pub read_or_fault : (text : List ℕ) (room f : ℕ) (r : Result ℕ (Placed Refusal)) (m : List (Placed Statement)) (s : Result ℕ Fault) (F : Placed Refusal → Fault → Type 0) → ReadAnswers text room r m
+    → MatchResult r (λ x. s ≡ Ok x) (λ e. IsErrAnd s (F e)) → ((e : Placed Refusal) (y : Fault) → F e y → y ≡ fault Read e)
+    → MatchResult s (λ n. ReadSheet text room n m) (λ y. (k : ℕ) → LoadRefuses text room f k y)
+read_or_fault text room f r m s F a h g =
+    mapped _ _ _ _ r s F (read_said text room r m a) h (λ n x. x) (λ e y x k. λ c. subst (LoadRefuses text room f c) (sym (g e y k)) (unread x))
 
 -- records at the front
 

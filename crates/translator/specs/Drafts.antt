@@ -1,5 +1,5 @@
 -- A draft of code, and what laying, closing and striking do to it.
-use Rattle.std.specs.Prelude.{◌≡◌, ℕ, suc, ◌-◌, ◌^◌, ◌<◌, min, Bool, false, T, List, ◌++◌, length, get_or, take, replicate, Some, None, Option, ◌==◌, slice_index_or, slice_set}
+use Rattle.std.specs.Prelude.{◌≡◌, ℕ, suc, ◌-◌, ◌<◌, Bool, false, T, List, ◌++◌, length, get_or, take, replicate, Some, None, Option, ◌==◌, slice_index_or, slice_set}
 use Rattle.filing.specs.Tables.{memory, count, lent}
 use Rattle.filing.specs.declared.table.Table.{Table}
 use Rattle.translator.specs.declared.draft.Draft.{Draft}
@@ -18,18 +18,18 @@ draft_lent d = lent d.table
 
 -- the instructions that are filed in a table
 abbrev pub filed : Table Instruction → List Instruction
-filed t = take (min (count t) (length (memory t))) (memory t)
+filed t = take (count t) (memory t)
 
 -- how many instructions are laid, and which
 abbrev pub laid : Draft → ℕ
-laid d = min (count d.table) (length (draft_memory d))
+laid d = count d.table
 
 abbrev pub laid_code : Draft → List Instruction
 laid_code d = filed d.table
 
--- the label of the instruction that will be laid next, as far as labels go: they are numbers of 64 bits
+-- the label of the instruction that will be laid next
 abbrev pub next_label : Draft → ℕ
-next_label d = min (suc (laid d)) (2 ^ 64 - 1)
+next_label d = suc (laid d)
 
 -- a test without a label
 abbrev pub is_open : Operation → Bool

@@ -11,8 +11,10 @@ use Rattle.translator.specs.declared.draft.Draft.{Draft}
 use Rattle.translator.specs.declared.types.Operation.{Operation}
 use Rattle.translator.specs.declared.types.Operation.TheVariants as operation
 use Rattle.translator.specs.declared.types.Flat.{Flat}
-use Rattle.translator.specs.JumpCode.{halt}
-use Rattle.translator.specs.Drafts.{draft_memory, laid, laid_code}
+use Rattle.translator.specs.declared.types.Role.TheVariants.{Jump}
+use Rattle.translator.specs.declared.types.Operation.TheVariants.{Goto}
+use Rattle.translator.specs.JumpCode.{instruction, halt}
+use Rattle.translator.specs.Drafts.{draft_memory, laid, laid_code, Appended}
 use Rattle.translator.specs.Translation.{FlatSheet, flat_size, code_size, lay, compiled, flat_records_from}
 
 -- the elements xs stand in ys from index a on
@@ -52,6 +54,16 @@ pub record StatementLaid (rs : List (Placed Flat)) (b : ℕ) (f : FlatSheet) (d 
 -- the memory of a draft has no room for the code of f too
 abbrev pub NoRoom : FlatSheet → Draft → Type 0
 NoRoom f d = length (draft_memory d) < laid d + code_size f
+
+-- the draft d became e: the body f of a WHILE is laid, and behind it the jump back to the label l
+pub record RoundLaid (f : FlatSheet) (l : ℕ) (d e : Draft) : Type 0 where
+  pub between : Draft
+  pub body : CodeLaid f d between
+  pub back : Appended (instruction Jump (Goto l)) between e
+
+-- the memory has no room for them
+abbrev pub NoRoomForRound : FlatSheet → Draft → Type 0
+NoRoomForRound f d = length (draft_memory d) < laid d + suc (code_size f)
 
 -- the draft d became e: it holds the code of p, and zero instructions behind it
 pub record Coded (p : Sheet) (d e : Draft) : Type 0 where

@@ -8,6 +8,7 @@ use Rattle.reader.specs.Sheet.{Sheet, size}
 use Rattle.reader.specs.Symbols.{PlacedSymbol, placed, heads}
 use Rattle.reader.specs.Records.{records, with_places, cleared}
 use Rattle.reader.specs.Reading.{Lexed, Sheeted, ReadAnswers}
+use Rattle.translator.specs.declared.draft.Draft.{Draft}
 use Rattle.translator.specs.declared.draft.SealedCode.{SealedCode}
 use Rattle.translator.specs.declared.types.Flat.{Flat}
 use Rattle.translator.specs.declared.types.Instruction.{Instruction}
@@ -18,6 +19,7 @@ use Rattle.translator.specs.JumpCode.{halt}
 use Rattle.translator.specs.Counters.{sheet_width}
 use Rattle.translator.specs.Translation.{flat, flat_size, compiled, placed_flats}
 use Rattle.translator.specs.Seals.{sealed_memory, sealed_code, sealed_width}
+use Rattle.translator.specs.Laying.{Coded}
 use Rattle.translator.specs.Flattening.{zero_placed_flat}
 
 abbrev pub fault : Stage → Placed Refusal → Fault
@@ -46,6 +48,12 @@ pub record Prepared (text : List ℕ) (r f n : ℕ) (rs : List (Placed Statement
   pub room : (size sheet ≤ r) × (flat_size (flat sheet) ≤ f)
   pub statements : rs ≡ with_places places (records sheet) ++ cleared (r - size sheet)
   pub flats : fs ≡ placed_flats sheet places ++ cleared_flats (f - flat_size (flat sheet))
+
+-- the draft d became e: it holds the code of that sheet too
+pub record SheetLaid (text : List ℕ) (r f : ℕ) (rs : List (Placed Statement)) (fs : List (Placed Flat)) (d e : Draft) : Type 0 where
+  pub flats : ℕ
+  pub prepared : Prepared text r f flats rs fs
+  pub coded : Coded prepared.sheet d e
 
 -- an accepted load into memory for r statements, f flat ones and c instructions: the sheet that the text spells, its flat statements,
 -- and its translation, each with zero ones behind them

@@ -1,10 +1,10 @@
 // Lays the code of flat statements into a draft.
-ghost use Rattle.std.specs.Prelude.{◌≡◌, ℕ, ◌^◌, ◌<◌, length, MatchResult};
+ghost use Rattle.std.specs.Prelude.{◌≡◌, ℕ, ◌<◌, length, MatchResult};
 ghost use Rattle.reader.specs.declared.types.Refusal.TheVariants.{CodeFull};
 ghost use Rattle.reader.specs.Sheet.{Sheet};
 ghost use Rattle.translator.specs.Drafts.{draft_memory, draft_lent, laid};
 ghost use Rattle.translator.specs.Translation.{FlatSheet, flat, compiled};
-ghost use Rattle.translator.specs.Laying.{FlatSpan, CodeLaid, StatementLaid, NoRoom, Coded, assigned};
+ghost use Rattle.translator.specs.Laying.{FlatSpan, CodeLaid, StatementLaid, RoundLaid, NoRoom, NoRoomForRound, Coded, assigned};
 
 use crate::draft::{Draft, HALT};
 use crate::types::{Flat, Instruction, Operation, Role};
@@ -19,7 +19,7 @@ fn assignment(statement: Statement) -> Operation
         target,
         source,
         constant,
-        end: _,
+        ..
     } = statement;
     match kind {
         Kind::Plus => Operation::Plus {
@@ -37,9 +37,9 @@ fn assignment(statement: Statement) -> Operation
 }
 
 // Lays the statement at an index, with its body, and answers the index behind it.
-#[cycle(lay_flats_lay_statement)]
+#[cycle(lay_flats_lay_round_lay_statement)]
 fn lay_statement(flats: &[Placed<Flat>], at: usize, draft: &mut Draft) -> Result<usize, Refusal>
-    requires { (((b : ℕ) × (f : FlatSheet) × FlatSpan flats.now at b f × (at < b))) × (length (draft_memory draft.old) < 2 ^ 60) }
+    requires { (b : ℕ) × (f : FlatSheet) × FlatSpan flats.now at b f × (at < b) }
     ensures laid { MatchResult result
         (λ n. (at < n) × ((b : ℕ) (f : FlatSheet) → FlatSpan flats.now at b f → at < b → StatementLaid flats.now b f draft.old n draft.new))
         (λ e. (e ≡ CodeFull) × ((b : ℕ) (f : FlatSheet) → FlatSpan flats.now at b f → at < b → NoRoom f draft.old)) }
@@ -51,47 +51,55 @@ fn lay_statement(flats: &[Placed<Flat>], at: usize, draft: &mut Draft) -> Result
     match statement.kind {
         Kind::While => {
             let label = draft.next_label();
-            let jump = match draft.test(statement.source, flat.role) {
-                Ok(jump) => jump,
-                Err(e) => return Err(e),
-            };
-            if let Err(e) = lay_flats(flats, at + 1, statement.end, draft) {
-                let _ = jump.strike(draft);
-                return Err(e);
+            let jump = draft.test(statement.source, flat.role)?;
+            match lay_round(flats, at + 1, statement.end, label, draft) {
+                Ok(()) => jump.close(draft)?,
+                Err(refusal) => {
+                    let _ = jump.strike(draft);
+                    return Err(refusal);
+                }
             }
-            if let Err(e) = draft.lay(Instruction {
-                operation: Operation::Goto { label },
-                role: Role::Jump,
-            }) {
-                let _ = jump.strike(draft);
-                return Err(e);
-            }
-            if let Err(e) = jump.close(draft) {
-                return Err(e);
-            }
-            Ok(statement.end)
         }
-        _ => {
-            if let Err(e) = draft.lay(Instruction {
-                operation: assignment(statement),
-                role: flat.role,
-            }) {
-                return Err(e);
-            }
-            Ok(statement.end)
-        }
+        _ => draft.lay(Instruction {
+            operation: assignment(statement),
+            role: flat.role,
+        })?,
     }
+    Ok(statement.end)
+}
+
+// Lays the body of a WHILE, from one index up to another, and the jump back to its label.
+#[cycle(lay_flats_lay_round_lay_statement)]
+fn lay_round(
+    flats: &[Placed<Flat>],
+    from: usize,
+    to: usize,
+    label: usize,
+    draft: &mut Draft,
+) -> Result<(), Refusal>
+    requires { (f : FlatSheet) × FlatSpan flats.now from to f }
+    ensures laid { MatchResult result
+        (λ _. ((f : FlatSheet) → FlatSpan flats.now from to f → RoundLaid f label draft.old draft.new))
+        (λ e. (e ≡ CodeFull) × ((f : FlatSheet) → FlatSpan flats.now from to f → NoRoomForRound f draft.old)) }
+    ensures room { length (draft_memory draft.new) ≡ length (draft_memory draft.old) }
+    ensures lent { draft_lent draft.new ≡ draft_lent draft.old }
+{
+    lay_flats(flats, from, to, draft)?;
+    draft.lay(Instruction {
+        operation: Operation::Goto { label },
+        role: Role::Jump,
+    })
 }
 
 // Lays the statements from one index up to another.
-#[cycle(lay_flats_lay_statement)]
+#[cycle(lay_flats_lay_round_lay_statement)]
 fn lay_flats(
     flats: &[Placed<Flat>],
     from: usize,
     to: usize,
     draft: &mut Draft,
 ) -> Result<(), Refusal>
-    requires { (((f : FlatSheet) × FlatSpan flats.now from to f)) × (length (draft_memory draft.old) < 2 ^ 60) }
+    requires { (f : FlatSheet) × FlatSpan flats.now from to f }
     ensures laid { MatchResult result
         (λ _. ((f : FlatSheet) → FlatSpan flats.now from to f → CodeLaid f draft.old draft.new))
         (λ e. (e ≡ CodeFull) × ((f : FlatSheet) → FlatSpan flats.now from to f → NoRoom f draft.old)) }
@@ -100,29 +108,23 @@ fn lay_flats(
 {
     let mut at = from;
     while at < to {
-        at = match lay_statement(flats, at, draft) {
-            Ok(next) => next,
-            Err(e) => return Err(e),
-        };
+        at = lay_statement(flats, at, draft)?;
     }
     Ok(())
 }
 
 // Lays the code of a whole sheet, with HALT, into an empty draft, and clears the memory behind it.
 pub(crate) fn lay_code(flats: &[Placed<Flat>], to: usize, draft: &mut Draft) -> Result<(), Refusal>
-    requires { (((p : Sheet) × FlatSpan flats.now 0 to (flat p))) × ((length (draft_memory draft.old) < 2 ^ 60) × (laid draft.old ≡ 0)) }
+    requires flats { (p : Sheet) × FlatSpan flats.now 0 to (flat p) }
+    requires empty { laid draft.old ≡ 0 }
     ensures laid { MatchResult result
         (λ _. ((p : Sheet) → FlatSpan flats.now 0 to (flat p) → Coded p draft.old draft.new))
         (λ e. (e ≡ CodeFull) × ((p : Sheet) → FlatSpan flats.now 0 to (flat p) → length (draft_memory draft.old) < length (compiled p))) }
     ensures room { length (draft_memory draft.new) ≡ length (draft_memory draft.old) }
     ensures lent { draft_lent draft.new ≡ draft_lent draft.old }
 {
-    if let Err(e) = lay_flats(flats, 0, to, draft) {
-        return Err(e);
-    }
-    if let Err(e) = draft.lay(HALT) {
-        return Err(e);
-    }
+    lay_flats(flats, 0, to, draft)?;
+    draft.lay(HALT)?;
     draft.clear_rest();
     Ok(())
 }

@@ -2,9 +2,9 @@
 ghost use Rattle.std.specs.Prelude.{◌≡◌, ℕ, length, replicate, MatchResult};
 ghost use Rattle.reader.specs.Symbols.{placed};
 ghost use Rattle.reader.specs.Records.{cleared};
-ghost use Rattle.translator.specs.Drafts.{draft_memory, draft_lent};
+ghost use Rattle.translator.specs.Drafts.{draft_memory, draft_lent, laid};
 ghost use Rattle.translator.specs.Seals.{sealed_lent};
-ghost use Rattle.translator.specs.Loading.{fault, cleared_flats, cleared_code, Prepared, Loaded, LoadRefuses};
+ghost use Rattle.translator.specs.Loading.{fault, cleared_flats, cleared_code, Prepared, SheetLaid, Loaded, LoadRefuses};
 
 use crate::draft::{Draft, HALT, SealedCode};
 use crate::flatten::flatten;
@@ -25,8 +25,17 @@ pub struct RefusedLoad<'a> {
 fn clear<T: Copy>(memory: &mut [T], zero: T)
     ensures { memory.new ≡ replicate (length memory.old) zero }
 {
-    let mut table = Table::new(memory);
-    table.clear(zero);
+    Table::new(memory).clear(zero);
+}
+
+// The fault of a stage that knows no place.
+fn unplaced(stage: Stage, item: Refusal) -> Fault
+    ensures { result ≡ fault stage (placed 0 item) }
+{
+    Fault {
+        stage,
+        cause: Placed { place: 0, item },
+    }
 }
 
 // Reads the text and flattens its sheet; answers how many flat statements there are.
@@ -37,40 +46,41 @@ fn prepare(
 ) -> Result<usize, Fault>
     ensures { MatchResult result
         (λ n. Prepared text.now (length records.old) (length flats.old) n records.new flats.new)
-        (λ e. ((c : ℕ) → LoadRefuses text.now (length records.old) (length flats.old) c e)
-        × (records.new ≡ cleared (length records.old)) × (flats.new ≡ cleared_flats (length flats.old))) }
+        (λ e. (c : ℕ) → LoadRefuses text.now (length records.old) (length flats.old) c e) }
 {
-    let statements = match read(text, records) {
-        Ok(statements) => statements,
-        Err(cause) => {
-            clear(flats, ZERO_FLAT);
-            return Err(Fault {
-                stage: Stage::Read,
-                cause,
-            });
-        }
-    };
-    match flatten(records, statements, flats) {
-        Ok(count) => Ok(count),
-        Err(item) => {
-            clear(records, ZERO_RECORD);
-            Err(Fault {
-                stage: Stage::Flatten,
-                cause: Placed { place: 0, item },
-            })
-        }
-    }
+    let statements = read(text, records).map_err(|cause| Fault {
+        stage: Stage::Read,
+        cause,
+    })?;
+    flatten(records, statements, flats).map_err(|item| unplaced(Stage::Flatten, item))
 }
 
-// Clears all three memories.
+// Lays the code of the sheet that the text spells into an empty draft.
+fn lay_sheet(
+    text: &[u8],
+    records: &mut [Placed<Statement>],
+    flats: &mut [Placed<Flat>],
+    draft: &mut Draft,
+) -> Result<(), Fault>
+    requires { laid draft.old ≡ 0 }
+    ensures laid { MatchResult result
+        (λ _. SheetLaid text.now (length records.old) (length flats.old) records.new flats.new draft.old draft.new)
+        (λ e. LoadRefuses text.now (length records.old) (length flats.old) (length (draft_memory draft.old)) e) }
+    ensures room { length (draft_memory draft.new) ≡ length (draft_memory draft.old) }
+    ensures lent { draft_lent draft.new ≡ draft_lent draft.old }
+{
+    let count = prepare(text, records, flats)?;
+    lay_code(flats, count, draft).map_err(|item| unplaced(Stage::Lay, item))
+}
+
+// Refuses with a fault, and clears all three memories.
 fn give_up<'a>(
-    stage: Stage,
-    item: Refusal,
+    fault: Fault,
     records: &mut [Placed<Statement>],
     flats: &mut [Placed<Flat>],
     draft: Draft<'a>,
 ) -> RefusedLoad<'a>
-    ensures fault { result.fault ≡ fault stage (placed 0 item) }
+    ensures fault { result.fault ≡ fault }
     ensures code { result.code.now ≡ cleared_code (length (draft_memory draft.entry)) }
     ensures lent { result.code.ghost_name ≡ draft_lent draft.entry }
     ensures records { records.new ≡ cleared (length records.old) }
@@ -80,13 +90,7 @@ fn give_up<'a>(
     clear(code, HALT);
     clear(flats, ZERO_FLAT);
     clear(records, ZERO_RECORD);
-    RefusedLoad {
-        fault: Fault {
-            stage,
-            cause: Placed { place: 0, item },
-        },
-        code,
-    }
+    RefusedLoad { fault, code }
 }
 
 // Reads the text of a sheet, flattens it, lays its code and seals it. The memory behind what is filled is cleared; a refusal clears all of it.
@@ -103,19 +107,17 @@ pub fn load<'a>(
         × (records.new ≡ cleared (length records.old)) × (flats.new ≡ cleared_flats (length flats.old))
         × (e.code.now ≡ cleared_code (length code.old)) × (e.code.ghost_name ≡ code.entry.ghost_name)) }
 {
-    let count = match prepare(text, records, flats) {
-        Ok(count) => count,
-        Err(fault) => {
-            clear(code, HALT);
-            return Err(RefusedLoad { fault, code });
-        }
-    };
     let mut draft = Draft::new(code);
-    if let Err(refusal) = lay_code(flats, count, &mut draft) {
-        return Err(give_up(Stage::Lay, refusal, records, flats, draft));
+    if let Err(fault) = lay_sheet(text, records, flats, &mut draft) {
+        return Err(give_up(fault, records, flats, draft));
     }
     match draft.seal() {
         Ok(sealed) => Ok(sealed),
-        Err((refusal, draft)) => Err(give_up(Stage::Seal, refusal, records, flats, draft)),
+        Err((refusal, draft)) => Err(give_up(
+            unplaced(Stage::Seal, refusal),
+            records,
+            flats,
+            draft,
+        )),
     }
 }

@@ -1,4 +1,4 @@
-// The plain data of the translator. It carries no clause, so that specs/ can name every type.
+// The plain data of the translator. Clauses stand inside impl blocks alone, so that specs/ can name every type.
 use reader::types::{Kind, Placed, Refusal, Statement};
 
 // Where an instruction or a flat statement comes from. docs/CODE.md has the letters.
@@ -12,7 +12,8 @@ pub enum Role {
     Jump,
 }
 
-// What an instruction does. A label counts from 1.
+// What an instruction does. A label counts from 1; a test that has none yet holds 0 there, as the format of
+// instructions says.
 #[derive(Clone, Copy, Debug, PartialEq, Eq)]
 pub enum Operation {
     Halt,
@@ -35,6 +36,48 @@ pub enum Operation {
     },
 }
 
+impl Operation {
+    ghost use Rattle.std.specs.Prelude.{◌≡◌, ℕ, T};
+    ghost use Rattle.translator.specs.JumpCode.{fits};
+    ghost use Rattle.translator.specs.Drafts.{is_open};
+    ghost use Rattle.translator.specs.Width.{named};
+
+    // Whether it is a test without a label.
+    pub(crate) fn is_open(self) -> bool
+        ensures { result ≡ is_open self }
+    {
+        matches!(self, Operation::If { label: 0, .. })
+    }
+
+    // Whether it names registers below `registers` and labels inside a code of `len` instructions.
+    pub fn fits(self, registers: usize, len: usize) -> bool
+        ensures { result ≡ fits registers len self }
+    {
+        match self {
+            Operation::Halt => true,
+            Operation::Plus { target, source, .. } | Operation::Minus { target, source, .. } => {
+                target < registers && source < registers
+            }
+            Operation::If { source, label } => source < registers && 1 <= label && label <= len,
+            Operation::Goto { label } => 1 <= label && label <= len,
+        }
+    }
+
+    // One above the highest register that it names; 0 where it names none.
+    pub(crate) fn named_registers(self) -> usize
+        requires { (len : ℕ) × T (fits 64 len self) }
+        ensures { result ≡ named self }
+    {
+        match self {
+            Operation::Halt | Operation::Goto { .. } => 0,
+            Operation::Plus { target, source, .. } | Operation::Minus { target, source, .. } => {
+                target.max(source) + 1
+            }
+            Operation::If { source, .. } => source + 1,
+        }
+    }
+}
+
 #[derive(Clone, Copy, Debug, PartialEq, Eq)]
 pub struct Instruction {
     pub operation: Operation,
@@ -48,7 +91,8 @@ pub struct Flat {
     pub role: Role,
 }
 
-// What memory for flat statements holds where it holds none.
+// What memory for flat statements holds where it holds none. A constant cannot take a field of another one, so what
+// ZERO_RECORD has stands here again.
 pub const ZERO_FLAT: Placed<Flat> = Placed {
     place: 0,
     item: Flat {

@@ -1,26 +1,66 @@
-ghost use Rattle.std.specs.Prelude.{◌≡◌, suc, length, MatchResult};
-ghost use Rattle.translator.specs.JumpCode.{instruction_at};
+// Sealing a draft, and the code that is sealed.
+ghost use Rattle.std.specs.Prelude.{◌≡◌, suc, length, MatchResult, None};
+ghost use Rattle.translator.specs.JumpCode.{instruction_at, AllFit};
 ghost use Rattle.translator.specs.Drafts.{laid_code};
-ghost use Rattle.translator.specs.Seals.{sealed_memory, sealed_lent, sealed_code, sealed_width, AnyOpen, Sound, SealRefuses, SealSays, answer};
+ghost use Rattle.translator.specs.Seals.{sealed_memory, sealed_lent, sealed_code, sealed_width, AnyOpen, EndsInHalt, Sound, SealRefuses, SealSays, Tells, answer};
 ghost use Rattle.translator.specs.Width.{width};
 
-use super::filed::{all_fit, ends_in_halt, filed_len, registers_named, some_open};
 use super::{Draft, SealedCode};
-use crate::types::Instruction;
+use crate::types::{Instruction, Operation};
 use reader::types::Refusal;
+
+// Whether some test has no label yet.
+fn some_open(code: &[Instruction]) -> bool
+    ensures { Tells result (AnyOpen code.now) }
+{
+    code.iter()
+        .any(|instruction| instruction.operation.is_open())
+}
+
+// Whether each instruction names registers up to x63 and labels inside the code.
+fn all_fit(code: &[Instruction]) -> bool
+    ensures { Tells result (AllFit 64 code.now) }
+{
+    let len = code.len();
+    code.iter()
+        .all(|instruction| instruction.operation.fits(64, len))
+}
+
+// Whether the last instruction is HALT.
+fn ends_in_halt(code: &[Instruction]) -> bool
+    ensures { Tells result (EndsInHalt code.now) }
+{
+    code.last()
+        .is_some_and(|last| last.operation == Operation::Halt)
+}
+
+// N: one above the highest register named, and at least 32.
+fn registers_named(code: &[Instruction]) -> usize
+    requires { AllFit 64 code.now }
+    ensures { result ≡ width code.now }
+{
+    let mut registers = 32;
+    for instruction in code {
+        registers = registers.max(instruction.operation.named_registers());
+    }
+    registers
+}
 
 impl<'a> Draft<'a> {
     // What a seal refuses.
-    fn fault(&self) -> Option<Refusal>
-        ensures { SealSays (laid_code self.now) result }
+    fn fault(&self) -> Result<(), Refusal>
+        ensures { MatchResult result
+            (λ _. SealSays (laid_code self.now) None)
+            (λ e. SealRefuses (laid_code self.now) e) }
     {
-        if some_open(&self.table) {
-            return Some(Refusal::JumpOpen);
+        let code = self.table.as_slice();
+        if some_open(code) {
+            return Err(Refusal::JumpOpen);
         }
-        if ends_in_halt(&self.table) && all_fit(&self.table) {
-            None
+        if ends_in_halt(code) && all_fit(code) {
+            Ok(())
         } else {
-            Some(Refusal::BadDraft)
+            Err(Refusal::BadDraft)
         }
     }
 
@@ -31,7 +71,7 @@ impl<'a> Draft<'a> {
         ensures width { sealed_width result ≡ width (laid_code self.entry) }
     {
         let Draft { table } = self;
-        let registers = registers_named(&table);
+        let registers = registers_named(table.as_slice());
         SealedCode { table, registers }
     }
 
@@ -42,18 +82,25 @@ impl<'a> Draft<'a> {
             (λ e. SealRefuses (laid_code self.entry) e.0 × (e.1 ≡ self.entry)) }
     {
         match self.fault() {
-            Some(refusal) => Err((refusal, self)),
-            None => Ok(self.into_sealed()),
+            Ok(()) => Ok(self.into_sealed()),
+            Err(refusal) => Err((refusal, self)),
         }
     }
 }
 
 impl<'a> SealedCode<'a> {
+    // The instructions.
+    pub fn as_slice(&self) -> &[Instruction]
+        ensures { result.now ≡ sealed_code self.now }
+    {
+        self.table.as_slice()
+    }
+
     // How many instructions there are.
     pub fn len(&self) -> usize
         ensures { result ≡ length (sealed_code self.now) }
     {
-        filed_len(&self.table)
+        self.as_slice().len()
     }
 
     // N, the number of registers that the code needs.
@@ -67,17 +114,14 @@ impl<'a> SealedCode<'a> {
     pub fn get(&self, index: usize) -> Option<Instruction>
         ensures { result ≡ answer (instruction_at (sealed_code self.now) (suc index)) }
     {
-        self.table.get(index)
+        self.as_slice().get(index).copied()
     }
 
     // The instruction at a label.
     pub fn instruction(&self, label: usize) -> Option<Instruction>
         ensures { result ≡ answer (instruction_at (sealed_code self.now) label) }
     {
-        if label == 0 {
-            return None;
-        }
-        self.get(label - 1)
+        self.get(label.checked_sub(1)?)
     }
 
     // Gives the memory back, as it is.
