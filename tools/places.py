@@ -5,6 +5,7 @@
 
 A pattern can only point at a place; whether it is one is judged on the page."""
 import collections
+import difflib
 import itertools
 import pathlib
 import re
@@ -51,6 +52,33 @@ def functions(text):
         yield m.group(1), parameters, clauses
 
 
+def shape(body):
+    """The tokens of a body, with its names and numbers made alike."""
+    tokens = re.findall(r"[A-Za-z_]\w*|\d[\w]*|\S", re.sub(r"//[^\n]*", "", body))
+    keywords = {"if", "else", "match", "for", "in", "while", "loop", "let", "mut", "return", "Ok", "Err", "Some", "None", "self"}
+    return tuple("0" if t[0].isdigit() else t if t in keywords or not (t[0].isalpha() or t[0] == "_") else "a" for t in tokens)
+
+
+def bodies(text):
+    """(name, body) of each function."""
+    for m in re.finditer(r"\bfn (\w+)", text):
+        i, depth, clause = m.end(), 0, False
+        while i < len(text) and not (text[i] in "{;" and depth == 0 and not clause):
+            if re.compile(r"\b(?:requires|ensures)\b").match(text, i):
+                clause = True
+            depth += {"(": 1, "[": 1, "{": 1, ")": -1, "]": -1, "}": -1}.get(text[i], 0)
+            if text[i] == "}" and depth == 0:
+                clause = False
+            i += 1
+        if i == len(text) or text[i] == ";":
+            continue
+        j, depth = i + 1, 1
+        while depth:
+            depth += {"{": 1, "}": -1}.get(text[j], 0)
+            j += 1
+        yield m.group(1), text[i + 1 : j - 1]
+
+
 def main():
     verbose = "-v" in sys.argv
     rest = [a for a in sys.argv[1:] if a != "-v"]
@@ -64,6 +92,16 @@ def main():
             for name, pattern in PATTERNS.items():
                 if re.search(pattern, line):
                     found[name].append(f"{path.relative_to(top)}:{n}: {line.strip()}")
+    shapes = []
+    for path in files:
+        for name, body in bodies(path.read_text()):
+            tokens = shape(body)
+            if len(tokens) >= 14:
+                shapes.append((f"{path.relative_to(top)} {name}", tokens))
+    for (a, x), (b, y) in itertools.combinations(shapes, 2):
+        matcher = difflib.SequenceMatcher(None, x, y, autojunk=False)
+        if matcher.real_quick_ratio() >= 0.85 and matcher.quick_ratio() >= 0.85 and matcher.ratio() >= 0.85:
+            found["2 two functions of nearly one shape"].append(f"{a} ~ {b}")
     for crate in sorted(top.glob("crates/*/src")):
         facts, together = collections.defaultdict(set), collections.defaultdict(set)
         for path in sorted(crate.rglob("*.rt")):

@@ -1,53 +1,28 @@
 // The escapes of a sample: bytes on one line of printable ASCII characters.
 ghost use Rattle.std.specs.Prelude.{◌<◌, length, IfSome};
 
-use std::alloc::{AllocError, AllocFailed, Global};
+use std::alloc::{AllocError, Global};
 use std::fmt;
+use thiserror::Error;
 
 // Why a line has no sample.
-#[derive(Debug, Drop)]
+#[derive(Debug, Drop, Error)]
 pub enum BadLine {
+    #[error("the line does not begin with `text `")]
     NoText,
+    #[error("the backslash in column {0} begins no escape, as \\\\, \\n or \\xHH do")]
     BadEscape(usize),
-    Memory,
-}
-
-impl From<AllocError> for BadLine {
-    fn from(_e: AllocError) -> BadLine {
-        BadLine::Memory
-    }
-}
-
-impl<T: Drop> From<AllocFailed<T>> for BadLine {
-    fn from(_e: AllocFailed<T>) -> BadLine {
-        BadLine::Memory
-    }
-}
-
-impl fmt::Display for BadLine {
-    fn fmt<W: fmt::Write>(&self, f: &mut fmt::Formatter<W>) -> fmt::Result {
-        match self {
-            BadLine::NoText => write!(f, "the line does not begin with `text `"),
-            BadLine::BadEscape(column) => write!(
-                f,
-                "the backslash in column {column} begins no escape, as \\\\, \\n or \\xHH do"
-            ),
-            BadLine::Memory => write!(f, "there is no memory for it"),
-        }
-    }
+    #[error("there is no memory for it")]
+    Memory(#[from(alloc)] AllocError),
 }
 
 // The bytes of the sheet on a line.
 pub fn sample_text(heap: Global, line: &[u8]) -> Result<Vec<u8>, BadLine> {
-    let Some(escaped) = line.strip_prefix(b"text ") else {
-        return Err(BadLine::NoText);
-    };
+    let mut rest = line.strip_prefix(b"text ").ok_or(BadLine::NoText)?;
     let mut text = Vec::new(heap);
-    let mut rest = escaped;
     while !rest.is_empty() {
-        let Some((byte, after)) = first_byte(rest) else {
-            return Err(BadLine::BadEscape(line.len() - rest.len() + 1));
-        };
+        let column = line.len() - rest.len() + 1;
+        let (byte, after) = first_byte(rest).ok_or(BadLine::BadEscape(column))?;
         text.push(byte)?;
         rest = after;
     }
@@ -87,12 +62,13 @@ pub struct Escaped<'a>(pub &'a [u8]);
 
 impl fmt::Display for Escaped<'_> {
     fn fmt<W: fmt::Write>(&self, f: &mut fmt::Formatter<W>) -> fmt::Result {
-        let bytes = self.0;
-        for (i, byte) in bytes.iter().enumerate() {
-            let is_last = i + 1 == bytes.len();
-            write_escaped(f, *byte, is_last)?;
+        let Some((last, front)) = self.0.split_last() else {
+            return Ok(());
+        };
+        for byte in front {
+            write_escaped(f, *byte, false)?;
         }
-        Ok(())
+        write_escaped(f, *last, true)
     }
 }
 

@@ -1,6 +1,5 @@
 // What is found in the text of a sheet.
 use crate::escape::Escaped;
-use anyhow::anyhow;
 use reader::types::{Placed, Statement, ZERO_RECORD};
 use reader::{print, read};
 use shown::{write_code, write_refused};
@@ -12,7 +11,7 @@ pub fn write_finding(out: &mut impl Write, text: &[u8]) -> anyhow::Result<()> {
     let mut records = [ZERO_RECORD; 256];
     match read(text, &mut records) {
         Ok(count) => {
-            write_sheet(out, &records[0..count])?;
+            write_sheet(out, &records[..count])?;
             write_code(out, text)?;
             Ok(())
         }
@@ -28,12 +27,8 @@ fn write_sheet(out: &mut impl Write, sheet: &[Placed<Statement>]) -> anyhow::Res
     let deepest = depth(sheet);
     writeln!(out, "{statements} statements, depth {deepest}")?;
     let mut page = [0; 16_384];
-    match print(sheet, &mut page) {
-        Ok(length) => {
-            let printed = Escaped(&page[0..length]);
-            writeln!(out, "printed {printed}")?;
-            Ok(())
-        }
-        Err(refusal) => Err(anyhow!(refusal.words())),
-    }
+    let length = print(sheet, &mut page)?;
+    let printed = Escaped(&page[..length]);
+    writeln!(out, "printed {printed}")?;
+    Ok(())
 }

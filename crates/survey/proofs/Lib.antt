@@ -1,3 +1,2 @@
 mod Levels
 mod Depths
-pub mod Fits
