@@ -96,7 +96,7 @@ def main():
     for path in files:
         for name, body in bodies(path.read_text()):
             tokens = shape(body)
-            if len(tokens) >= 14:
+            if len(tokens) >= 22:
                 shapes.append((f"{path.relative_to(top)} {name}", tokens))
     for (a, x), (b, y) in itertools.combinations(shapes, 2):
         matcher = difflib.SequenceMatcher(None, x, y, autojunk=False)

@@ -99,6 +99,8 @@ impl<'c> Run<'c> {
 }
 
 impl<'c> Loaded<'c> {
+    // The three begin alike. One function over what begins, with a closure that makes the run of it, was tried: the check
+    // makes no proof of such a function.
     fn start_show<S: Store>(self, stores: &mut Twins<S>, inputs: &[u32]) -> (Run<'c>, Reply) {
         let Loaded { sealed, records } = self;
         match Show::start(sealed, &mut stores.first, inputs) {
