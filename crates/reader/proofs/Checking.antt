@@ -1,5 +1,5 @@
 -- The check of records, each way.
-use Rattle.std.proofs.Common.{◌≡◌, ℕ, suc, ◌+◌, ◌<◌, ◌≤◌, max, cond, nat_eq, Bool, true, false, ◌⊎◌, List, [], ◌∷◌, ◌++◌, length, drop, Decides, sym, refl, ap, ◌∙◌, subst, inl, inr, ⊎_elim, add-one, arith}
+use Rattle.std.proofs.Common.{◌≡◌, ℕ, suc, ◌+◌, ◌<◌, ◌≤◌, max, cond, nat_eq, Bool, true, false, ◌⊎◌, List, [], ◌∷◌, ◌++◌, length, drop, Decides, sym, refl, ap, ◌∙◌, subst, inl, inr, ⊎_elim, add-one, arith, eqb-true, eq-eqb}
 use Rattle.std.specs.List.{count_by}
 use Rattle.std.proofs.lemmas.List.Recursion.{is_count_by}
 use Rattle.std.proofs.lemmas.List.{at_drop_more, at_drop_all}
@@ -168,6 +168,11 @@ less_of rs a e n (while j q p) lt h g f d = less_block rs a e n j h.0 While q p 
 
 pub body_less : (rs : Recs) (a e n : ℕ) → a < e → Body rs a e n → IsStatement rs a e n × Body rs (at rs a).end e n
 body_less rs a e n lt h = less_of rs a e n h.sheet lt h.spans h.whole h.fit h.shallow
+
+-- Behind its last statement a body is over exactly where it should be.
+pub body_end : (rs : Recs) (from a e n : ℕ) → e ≤ a → n ≤ 8 → (Body rs a e n → Body rs from e n) → (Body rs from e n → Body rs a e n) → Decides (nat_eq a e) (Body rs from e n)
+body_end rs from a e n le few f g =
+    (λ t. f (body_none rs a e n (eqb-true a e t) few), λ b. let h = g b in eq-eqb a e (omega (arith, spans_size rs a e h.sheet h.spans)))
 
 -- The LOOPs of a sheet, counted by its records.
 count : List Statement → ℕ

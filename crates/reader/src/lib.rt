@@ -4,6 +4,7 @@
 mod check;
 mod cursor;
 pub mod laws;
+mod level;
 mod lexeme;
 mod lexer;
 mod parser;
