@@ -16,6 +16,13 @@ pub struct Counts {
     ghost looped: { loops ≤ 32 },
 }
 
+// The kind of a block.
+#[derive(Clone, Copy)]
+pub enum BlockKind {
+    Loop,
+    While,
+}
+
 // A text that is parsed, and the records of the statements that have begun, as far as their memory goes.
 #[derive(Drop)]
 pub struct Parser<'a, 't> {

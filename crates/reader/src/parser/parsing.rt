@@ -1,20 +1,29 @@
-ghost use Rattle.std.specs.Prelude.{◌≡◌, ℕ, suc, ◌+◌, ◌<◌, ◌≤◌, List, [], ◌∷◌, length, slice_set};
-ghost use Rattle.reader.specs.declared.types.Refusal.TheVariants.{TooDeep, TooMany};
+ghost use Rattle.std.specs.Prelude.{◌≡◌, ℕ, ◌<◌, ◌≤◌, List, [], ◌∷◌, length, slice_set};
 ghost use Rattle.reader.specs.Symbols.{Symbol, register, placed};
 ghost use Rattle.reader.specs.Machine.{Expect};
-ghost use Rattle.reader.specs.Parsing.{text_of, pos_of, memory_of, Kept, StatementRead, BodyRead, Opening, Block, Admitted, HeadRead, Fresh, SheetRead};
+ghost use Rattle.reader.specs.Parsing.{text_of, pos_of, memory_of, Kept, StatementRead, BodyRead, Opening, kind_of, BlockAdmitted, BlockHeadRead, RecordFiled, Fresh, SheetRead};
 
 use super::record_filing::{amend_record, file_record};
-use super::{Counts, Parser};
+use super::{BlockKind, Counts, Parser};
 use crate::cursor::{Cursor, out_of_order};
+use crate::level::Level;
 use crate::types::{Kind, Lexeme, Placed, Refusal, Statement};
 
-// The most levels, statements and LOOPs of a sheet.
-const LEVELS: usize = 8;
-
+// The most statements and LOOPs of a sheet.
 const STATEMENTS: usize = 256;
 
 const LOOPS: usize = 32;
+
+impl From<BlockKind> for Kind {
+    ghost from_gives = { λ b k. k ≡ kind_of b };
+
+    fn from(kind: BlockKind) -> Kind {
+        match kind {
+            BlockKind::Loop => Kind::Loop,
+            BlockKind::While => Kind::While,
+        }
+    }
+}
 
 impl<'a, 't> Parser<'a, 't> {
     pub(crate) fn new(text: &'a [u8], records: &'t mut [Placed<Statement>]) -> Self
@@ -37,12 +46,7 @@ impl<'a, 't> Parser<'a, 't> {
     // Files the record of one statement more, as far as memory goes; gives its index.
     fn file(&mut self, place: usize, item: Statement) -> usize
         requires { self.old.counts.statements < 256 }
-        ensures index { result ≡ self.old.counts.statements }
-        ensures begun { self.new.counts.statements ≡ suc self.old.counts.statements }
-        ensures loops { self.new.counts.loops ≡ self.old.counts.loops }
-        ensures filed { memory_of self.new ≡ slice_set (memory_of self.old) self.old.counts.statements (placed place item) }
-        ensures kept { Kept self.old self.new }
-        ensures pos { pos_of self.new ≡ pos_of self.old }
+        ensures { RecordFiled (placed place item) self.old result self.new }
     {
         let index = self.counts.statements;
         file_record(self.records, index, Placed { place, item });
@@ -62,45 +66,46 @@ impl<'a, 't> Parser<'a, 't> {
         amend_record(self.records, filed, index, record);
     }
 
-    // Counts a LOOP or WHILE that begins at that level, or tells the limit that it passes.
-    fn admit(&mut self, kind: Kind, level: usize) -> Option<Refusal>
-        requires block { Block kind }
-        requires level { level ≤ 8 }
-        ensures admitted { Admitted level self.old.counts.statements self.old.counts.loops kind result self.new.counts.loops }
-        ensures begun { self.new.counts.statements ≡ self.old.counts.statements }
-        ensures memory { memory_of self.new ≡ memory_of self.old }
-        ensures kept { Kept self.old self.new }
-        ensures pos { pos_of self.new ≡ pos_of self.old }
+    // Counts a LOOP or WHILE that begins at that place and level, and gives the level inside it, or tells the limit that it
+    // passes.
+    fn admit(
+        &mut self,
+        kind: BlockKind,
+        place: usize,
+        level: Level,
+    ) -> Result<Level, Placed<Refusal>>
+        ensures { BlockAdmitted level.depth (kind_of kind) place self.old result self.new }
     {
-        if level >= LEVELS {
-            return Some(Refusal::TooDeep);
-        }
+        let inner = level.inner().ok_or(Placed {
+            place,
+            item: Refusal::TooDeep,
+        })?;
+        let too_many = Placed {
+            place,
+            item: Refusal::TooMany,
+        };
         if self.counts.statements >= STATEMENTS {
-            return Some(Refusal::TooMany);
+            return Err(too_many);
         }
         match kind {
-            Kind::Loop => {
+            BlockKind::Loop => {
                 if self.counts.loops >= LOOPS {
-                    return Some(Refusal::TooMany);
+                    return Err(too_many);
                 }
                 self.counts.loops += 1;
-                None
+                Ok(inner)
             }
-            _ => None,
+            BlockKind::While => Ok(inner),
         }
     }
 
     // Reads what follows the word of a LOOP or WHILE, up to its body, and gives the register.
-    fn head(&mut self, kind: Kind) -> Result<usize, Placed<Refusal>>
-        requires { Block kind }
-        ensures read { (s : Symbol) (x : Expect) → Opening kind s x → HeadRead x kind (text_of self.old) (pos_of self.old) result (pos_of self.new) }
-        ensures begun { (self.new.counts.statements ≡ self.old.counts.statements) × (self.new.counts.loops ≡ self.old.counts.loops) }
-        ensures memory { memory_of self.new ≡ memory_of self.old }
-        ensures kept { Kept self.old self.new }
+    fn head(&mut self, kind: BlockKind) -> Result<usize, Placed<Refusal>>
+        ensures { BlockHeadRead (kind_of kind) self.old result self.new }
     {
         match kind {
-            Kind::Loop => self.cursor.loop_head(),
-            _ => self.cursor.while_head(),
+            BlockKind::Loop => self.cursor.loop_head(),
+            BlockKind::While => self.cursor.while_head(),
         }
     }
 
@@ -123,45 +128,39 @@ impl<'a, 't> Parser<'a, 't> {
 
     // Reads one statement at that level, and files its records.
     #[cycle(block_body_statement)]
-    fn statement(&mut self, level: usize) -> Result<(), Placed<Refusal>>
-        requires { level ≤ 8 }
-        ensures read { StatementRead [] level self.old result self.new }
+    fn statement(&mut self, level: Level) -> Result<(), Placed<Refusal>>
+        ensures read { StatementRead [] level.depth self.old result self.new }
         ensures kept { Kept self.old self.new }
     {
         let first = self.cursor.require()?;
         match first.item {
             Lexeme::Register(target) => self.assignment(first.place, target),
-            Lexeme::Loop => self.block(Kind::Loop, first.place, level),
-            Lexeme::While => self.block(Kind::While, first.place, level),
+            Lexeme::Loop => self.block(BlockKind::Loop, first.place, level),
+            Lexeme::While => self.block(BlockKind::While, first.place, level),
             _ => Err(out_of_order(first.place)),
         }
     }
 
     // Reads what follows the word of a LOOP or WHILE, and files its records.
     #[cycle(block_body_statement)]
-    fn block(&mut self, kind: Kind, place: usize, level: usize) -> Result<(), Placed<Refusal>>
-        requires block { Block kind }
-        requires level { level ≤ 8 }
-        ensures read { (s : Symbol) (x : Expect) → Opening kind s x → StatementRead (placed place s ∷ []) level self.old result self.new }
+    fn block(&mut self, kind: BlockKind, place: usize, level: Level) -> Result<(), Placed<Refusal>>
+        ensures read { (s : Symbol) (x : Expect) → Opening (kind_of kind) s x → StatementRead (placed place s ∷ []) level.depth self.old result self.new }
         ensures kept { Kept self.old self.new }
     {
-        if let Some(item) = self.admit(kind, level) {
-            return Err(Placed { place, item });
-        }
+        let inner = self.admit(kind, place, level)?;
         let source = self.head(kind)?;
-        let index = self.file(place, Statement::block(kind, source, 0));
-        let follow = self.body(level + 1)?;
+        let index = self.file(place, Statement::block(Kind::from(kind), source, 0));
+        let follow = self.body(inner)?;
         self.cursor.expect_end(follow)?;
-        let item = Statement::block(kind, source, self.counts.statements);
+        let item = Statement::block(Kind::from(kind), source, self.counts.statements);
         self.amend(index, Placed { place, item });
         Ok(())
     }
 
     // Reads the statements of a body at that level, and files their records; gives what follows them.
     #[cycle(block_body_statement)]
-    pub(crate) fn body(&mut self, level: usize) -> Result<Option<Placed<Lexeme>>, Placed<Refusal>>
-        requires { level ≤ 8 }
-        ensures read { BodyRead level self.old result self.new }
+    pub(crate) fn body(&mut self, level: Level) -> Result<Option<Placed<Lexeme>>, Placed<Refusal>>
+        ensures read { BodyRead level.depth self.old result self.new }
         ensures kept { Kept self.old self.new }
     {
         loop {
@@ -182,7 +181,7 @@ impl<'a, 't> Parser<'a, 't> {
         ensures read { SheetRead room (text_of self.old) (memory_of self.old) result (memory_of self.new) }
         ensures kept { Kept self.old self.new }
     {
-        let follow = self.body(0)?;
+        let follow = self.body(Level::outermost())?;
         let end = self.cursor.expect_nothing(follow)?;
         if self.counts.statements > room {
             return Err(Placed {
