@@ -7,9 +7,9 @@ use Rattle.reader.specs.declared.types.Kind.{Kind}
 use Rattle.reader.specs.declared.types.Kind.TheVariants.{Zero, Plus, Minus, Loop, While}
 use Rattle.reader.specs.declared.types.Statement.{Statement}
 use Rattle.reader.specs.Sheet.{Sheet, done, plus, minus, loop, while, Some, Whole, Fit, depth, size, loops}
-use Rattle.reader.specs.Records.{statement_of, records_from, records, zero_record}
+use Rattle.reader.specs.Records.{statement_of, records_from, records, zero_record, kind_number}
 use Rattle.reader.specs.Checks.{items, at, Spans, IsSheet, Assigned, Headed, Body, IsStatement, an_assignment, a_block, loop_count, loops_in}
-use Rattle.reader.proofs.Spans.{Recs, same_all, spans_all, spans_size, some_more, some_of}
+use Rattle.reader.proofs.Spans.{Recs, same_all, spans_all, spans_size, spans_within, present, some_more, some_of}
 
 -- A test that came out false of what does not hold.
 pub refuted : {P : Type 0} → (P → ⊥) → Decides false P
@@ -168,6 +168,20 @@ less_of rs a e n (while j q p) lt h g f d = less_block rs a e n j h.0 While q p 
 
 pub body_less : (rs : Recs) (a e n : ℕ) → a < e → Body rs a e n → IsStatement rs a e n × Body rs (at rs a).end e n
 body_less rs a e n lt h = less_of rs a e n h.sheet lt h.spans h.whole h.fit h.shallow
+
+-- What is a statement or a body lies in the records.
+pub statement_within : (rs : Recs) (a e n : ℕ) → IsStatement rs a e n → a < length rs
+statement_within rs a e n (an_assignment k h) = present rs a (at rs a) refl (⊎_elim (λ x. go Plus x (omega arith)) (λ x. go Minus x (omega arith)) k)
+  where
+    go : (k : Kind) → (at rs a).kind ≡ k → 0 < kind_number k → 0 < kind_number (at rs a).kind
+    go k x h = subst (λ (k : Kind). 0 < kind_number k) (sym x) h
+statement_within rs a e n (a_block k h b) = present rs a (at rs a) refl (⊎_elim (λ x. go Loop x (omega arith)) (λ x. go While x (omega arith)) k)
+  where
+    go : (k : Kind) → (at rs a).kind ≡ k → 0 < kind_number k → 0 < kind_number (at rs a).kind
+    go k x h = subst (λ (k : Kind). 0 < kind_number k) (sym x) h
+
+pub body_within : (rs : Recs) (a e : ℕ) → a < e → Body rs a e 0 → e ≤ length rs
+body_within rs a e lt h = let s = statement_within rs a e 0 (body_less rs a e 0 lt h).0 in spans_within rs a e h.sheet (omega arith) h.spans
 
 -- Behind its last statement a body is over exactly where it should be.
 pub body_end : (rs : Recs) (from a e n : ℕ) → e ≤ a → n ≤ 8 → (Body rs a e n → Body rs from e n) → (Body rs from e n → Body rs a e n) → Decides (nat_eq a e) (Body rs from e n)

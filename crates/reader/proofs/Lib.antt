@@ -30,7 +30,6 @@ pub mod Steps
 pub mod Spans
 pub mod Checking
 pub mod Printing
-pub mod Digits
 pub mod Pages
 pub mod Statements
 pub mod Prints

@@ -1,27 +1,11 @@
-ghost use Rattle.std.specs.Prelude.{◌≡◌, ◌+◌, ◌*◌, ◌<◌, ◌≤◌, [], ◌∷◌, length, drop, decimal};
+ghost use Rattle.std.specs.Prelude.{◌≡◌, ◌+◌, ◌*◌, ◌<◌, ◌≤◌, [], ◌∷◌, length, decimal};
 ghost use Rattle.reader.specs.Lexing.{meant};
 ghost use Rattle.reader.specs.Printed.{bytes_of};
 ghost use Rattle.reader.specs.Pages.{on_page, put_bytes, gap_after, put_symbols, meanings};
 
 use super::Writer;
 use crate::types::Lexeme;
-
-// Writes the digits of `n` in base ten to the end of `digits`, and answers the index of the first.
-fn write_digits(n: usize, digits: &mut [u8; 20]) -> usize
-    ensures within { result ≤ 20 }
-    ensures digits { drop result digits.new ≡ decimal n }
-{
-    let mut rest = n;
-    let mut start = 20;
-    loop {
-        start -= 1;
-        digits[start] = b'0' + (rest % 10) as u8;
-        rest /= 10;
-        if rest == 0 {
-            return start;
-        }
-    }
-}
+use itoa::Buffer;
 
 impl<'a> Writer<'a> {
     // Ends the writing, and answers how many bytes were put.
@@ -60,9 +44,8 @@ impl<'a> Writer<'a> {
         ensures put { on_page self.new ≡ put_bytes (decimal n) (on_page self.old) }
         ensures short { self.new.written ≤ self.old.written + 20 }
     {
-        let mut digits = [0; 20];
-        let start = write_digits(n, &mut digits);
-        self.bytes(&digits[start..]);
+        let mut buffer = Buffer::new();
+        self.bytes(buffer.format(n).as_bytes());
     }
 
     // Puts the space before a token, unless the token is the first or a semicolon.

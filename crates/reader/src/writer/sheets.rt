@@ -1,4 +1,4 @@
-ghost use Rattle.std.specs.Prelude.{◌≡◌, ◌+◌, ◌-◌, ◌*◌, ◌<◌, ◌≤◌, length};
+ghost use Rattle.std.specs.Prelude.{◌≡◌, ◌+◌, ◌-◌, ◌*◌, ◌<◌, ◌≤◌};
 ghost use Rattle.reader.specs.Checks.{IsSheet, Body, IsStatement, span};
 ghost use Rattle.reader.specs.Printed.{spelling};
 ghost use Rattle.reader.specs.Pages.{on_page, put_symbols, first_statement, end_of, SheetWritten};
@@ -21,8 +21,6 @@ impl<'a> Writer<'a> {
     // Prints the statement of record `index`, in a body that ends before `to`.
     #[cycle(body_statement)]
     fn statement(&mut self, records: &[Placed<Statement>], index: usize, to: usize)
-        requires order { index < to }
-        requires within { to ≤ length records.now }
         requires sound { IsStatement records.now index to 0 }
         requires room { self.old.written + 154 * (end_of records.now index - index) ≤ 65536 }
         ensures put { on_page self.new ≡ put_symbols (spelling (first_statement records.now index)) (on_page self.old) }
@@ -60,7 +58,6 @@ impl<'a> Writer<'a> {
     #[cycle(body_statement)]
     fn body(&mut self, records: &[Placed<Statement>], from: usize, to: usize)
         requires order { from < to }
-        requires within { to ≤ length records.now }
         requires sound { Body records.now from to 0 }
         requires room { self.old.written + 154 * (to - from) ≤ 65536 }
         ensures put { on_page self.new ≡ put_symbols (spelling (span records.now from to)) (on_page self.old) }

@@ -1,13 +1,13 @@
 use Rattle.std.proofs.Common.{◌<◌, ◌≤◌, sym, refl, ◌∙◌, inl, inr, arith, rules}
 use Rattle.reader.specs.Pages.{on_page, end_of}
 use Rattle.reader.proofs.Statements.{first_of, turn, put_turn, put_first, put_last, sibling-none, put_loop, put_while}
-use Rattle.reader.proofs.Checking.{headed_of}
+use Rattle.reader.proofs.Checking.{headed_of, body_within}
 use Rattle.reader.proofs.writer.Writer.+body_statement.Goals as goal
 
 pub body-statement-requires : goal.body-statement-requires
 body-statement-requires t c =
     let f = first_of c.args.records.now c.args.from c.args.to c.requires.order c.requires.sound in
-    (search rules, (c.requires.order, (c.requires.within, (f.statement, omega (arith, f.forward, f.nested, c.requires.room)))))
+    (search rules, (f.statement, omega (arith, f.forward, f.nested, c.requires.room)))
 
 pub body-loop-next-init : goal.body-loop-next-init
 body-loop-next-init t c =
@@ -27,14 +27,8 @@ body-statement-requires-in-Some t c =
     let le : c.in-Some.next < c.args.to = n.before in (
       search rules,
       (
-        n.before,
-        (
-          c.requires.within,
-          (
-            n.first.statement,
-            omega (arith, f.forward, c.requires.room, c.statement.ensures.short, c.loop-next.invariant.2, c.loop-next.invariant.3, c.loop-next.invariant.6, c.tokens.ensures.short, n.is, n.first.forward, n.first.nested),
-          ),
-        ),
+        n.first.statement,
+        omega (arith, f.forward, c.requires.room, c.statement.ensures.short, c.loop-next.invariant.2, c.loop-next.invariant.3, c.loop-next.invariant.6, c.tokens.ensures.short, n.is, n.first.forward, n.first.nested),
       ),
     )
 
@@ -63,7 +57,7 @@ body-returns t c =
     let rs = c.args.records.now in
     let f = first_of c.args.records.now c.args.from c.args.to c.requires.order c.requires.sound in
     let le : c.args.to ≤ end_of c.args.records.now c.loop-next.index =
-    sibling-none rs c.loop-next.index c.args.to (omega (arith, c.requires.within, c.loop-next.invariant.1)) c.in_default.ensures.answer in
+    sibling-none rs c.loop-next.index c.args.to (omega (arith, body_within rs c.args.from c.args.to c.requires.order c.requires.sound, c.loop-next.invariant.1)) c.in_default.ensures.answer in
     record {
       put =
           sym (put_last rs (end_of rs c.loop-next.index) c.args.to (on_page c.loop-next.self) le) ∙ c.loop-next.invariant.5

@@ -8,7 +8,7 @@ use Rattle.reader.proofs.writer.sheets.write_sheet.Goals as goal
 pub body-requires : goal.body-requires
 body-requires c =
     let rs = c.args.records.now in
-    record { order = sheet_some rs c.requires; within = omega arith; sound = sheet_body rs c.requires; room = omega (arith, sheet_few rs c.requires) }
+    record { order = sheet_some rs c.requires; sound = sheet_body rs c.requires; room = omega (arith, sheet_few rs c.requires) }
 
 pub returns : goal.returns
 returns c =
