@@ -8,11 +8,8 @@ use crate::types::{Kind, Placed, Statement};
 pub fn next_sibling(records: &[Placed<Statement>], index: usize, body_end: usize) -> Option<usize>
     ensures answer { result ≡ sibling records.now index body_end }
 {
-    if index >= records.len() {
-        return None;
-    }
-    let end = records[index].item.end;
-    if end < body_end { Some(end) } else { None }
+    let end = records.get(index)?.item.end;
+    (end < body_end).then_some(end)
 }
 
 // Whether the record is that of an assignment, behind which comes the index `next`.

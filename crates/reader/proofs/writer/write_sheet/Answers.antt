@@ -3,7 +3,7 @@ use Rattle.reader.specs.Pages.{on_page}
 use Rattle.reader.proofs.Spans.{sheet_few, sheet_some}
 use Rattle.reader.proofs.Checking.{sheet_body}
 use Rattle.reader.proofs.Prints.{sheet_written, sheet_memory, sheet_lent}
-use Rattle.reader.proofs.writer.sheets.write_sheet.Goals as goal
+use Rattle.reader.proofs.writer.write_sheet.Goals as goal
 
 pub body-requires : goal.body-requires
 body-requires c =
