@@ -76,6 +76,7 @@ fn register(word: &[u8]) -> Result<Lexeme, Refusal>
     };
     let i = number(digits)?;
     if i <= 31 {
+        // `usize::from` takes no `u32`.
         Ok(Lexeme::Register(i as usize))
     } else {
         Err(Refusal::TooBig)

@@ -39,7 +39,7 @@ impl<'a> Writer<'a> {
         written
     }
 
-    // Puts one byte.
+    // Puts one byte. Here and below `requires` leaves room for the count, which each call adds to, so that no type bounds it.
     fn byte(&mut self, b: u8)
         requires { self.old.written < 65536 }
         ensures { on_page self.new ≡ put_bytes (b ∷ []) (on_page self.old) }
@@ -92,6 +92,7 @@ impl<'a> Writer<'a> {
             Lexeme::While => self.bytes(b"WHILE"),
             Lexeme::Do => self.bytes(b"DO"),
             Lexeme::End => self.bytes(b"END"),
+            // `usize::from` takes no `u32`.
             Lexeme::Number(n) => self.number(n as usize),
             Lexeme::Register(i) => {
                 self.byte(b'x');
