@@ -15,10 +15,10 @@ use Rattle.reader.specs.Machine.{Expect}
 use Rattle.reader.specs.Records.{statement_of}
 use Rattle.reader.specs.Lexing.{meant, Fine, Between, LexemeRead}
 use Rattle.reader.specs.Expecting.{Required, Closed, Halts}
-use Rattle.reader.specs.Parsing.{text_of, pos_of, memory_of, Kept, Parsed, RefusedBehind, StatementRead, Follows, Opening, Admitted, admits_loop, admits_while, Head, BlockAdmitted, BlockHeadRead, RecordFiled}
+use Rattle.reader.specs.Parsing.{text_of, pos_of, memory_of, Kept, Parsed, RefusedBehind, StatementRead, Follows, Opening, Admitted, Head, BlockAdmitted, BlockHeadRead, RecordFiled}
 use Rattle.reader.proofs.Counts.{small_register, size_spelled}
 use Rattle.reader.proofs.Parsing.{Joined, joined_more, parsed_block}
-use Rattle.reader.proofs.Refusing.{behind-first, joined_refused, follows_flawed, block_open, body_bad}
+use Rattle.reader.proofs.Refusing.{behind-first, follows_flawed, block_open, body_bad}
 
 pub kept_then : (a s z : Parser) → Kept a s → Kept s z → Kept a z
 kept_then a s z k l = record { text = l.text ∙ k.text; room = l.room ∙ k.room; loan = l.loan ∙ k.loan }
@@ -41,11 +41,6 @@ SoFar level a s =
     × Kept a s
 
 module _ (level : ℕ) (a s z : Parser) (far : SoFar level a s) where
-  pub statement_refused : (e : Placed Refusal) → RefusedBehind [] (text_of s) (pos_of s) level s.counts.statements s.counts.loops e → RefusedBehind [] (text_of a) (pos_of a) level a.counts.statements a.counts.loops e
-  statement_refused e r =
-      joined_refused (text_of a) (pos_of a) (pos_of s) far.0 e far.2 far.1
-      (subst (λ t. RefusedBehind [] t (pos_of s) level s.counts.statements s.counts.loops e) far.3.text r)
-
   module _ (one : Statements level s z) where
     moved : Between (text_of a) (pos_of s) (pos_of z) one.0 × Parsed (length (text_of a)) level s.counts.statements s.counts.loops (memory_of s) one.0 z.counts.statements z.counts.loops (memory_of z)
     moved =
@@ -115,14 +110,6 @@ first-between text from to x l e r = subst (λ k. Between text from to (placed x
 
 pub first_small : (text : List ℕ) (from to : ℕ) (x : Placed Lexeme) (i : ℕ) → x.item ≡ lexeme.Register i → Required text from (Ok x) to → i ≤ 31
 first_small text from to x i e r = small_register i (subst (λ k. Fine (meant k)) e r.1)
-
-pub admitted_level : {level n m m' : ℕ} {k : Kind} → Admitted level n m k None m' → level < 8
-admitted_level (admits_loop h _ _) = h
-admitted_level (admits_while h _) = h
-
-pub admitted_few : {level n m m' : ℕ} {k : Kind} → Admitted level n m k None m' → n < 256
-admitted_few (admits_loop _ h _) = h
-admitted_few (admits_while _ h) = h
 
 -- a LOOP or WHILE that began in the state a, whose body is read next, in the state b
 pub record Inside (level i : ℕ) (k : Kind) (a b : Parser) : Type 0 where

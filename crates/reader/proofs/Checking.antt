@@ -8,7 +8,7 @@ use Rattle.reader.specs.declared.types.Kind.TheVariants.{Zero, Plus, Minus, Loop
 use Rattle.reader.specs.declared.types.Statement.{Statement}
 use Rattle.reader.specs.Sheet.{Sheet, done, plus, minus, loop, while, Some, Whole, Fit, depth, size, loops}
 use Rattle.reader.specs.Records.{statement_of, records_from, records, zero_record, kind_number}
-use Rattle.reader.specs.Checks.{items, at, Spans, IsSheet, Assigned, Headed, Body, IsStatement, an_assignment, a_block, loop_count, loops_in}
+use Rattle.reader.specs.Checks.{items, at, Spans, IsSheet, Body, IsStatement, an_assignment, a_block, loop_count, loops_in}
 use Rattle.reader.proofs.Spans.{Recs, same_all, spans_all, spans_size, spans_within, present, some_more, some_of}
 
 -- A test that came out false of what does not hold.
@@ -39,37 +39,6 @@ eta_head s k p q r =
     ap (λ (x : Kind). statement_of x s.target s.source s.constant s.end) p
     ∙ ap (λ (x : ℕ). statement_of k x s.source s.constant s.end) q
     ∙ ap (λ (x : ℕ). statement_of k 0 s.source x s.end) r
-
--- The kinds of a statement exclude each other.
-plain_block : {A : Type 0} (k : Kind) → ((k ≡ Plus) ⊎ (k ≡ Minus)) → ((k ≡ Loop) ⊎ (k ≡ While)) → A
-plain_block k p q =
-    ⊎_elim
-    (λ (x : k ≡ Plus). ⊎_elim (λ (y : k ≡ Loop). clash (cc)) (λ (y : k ≡ While). clash (cc)) q)
-    (λ (x : k ≡ Minus). ⊎_elim (λ (y : k ≡ Loop). clash (cc)) (λ (y : k ≡ While). clash (cc)) q)
-    p
-
-plain_zero : {A : Type 0} (k : Kind) → k ≡ Zero → ((k ≡ Plus) ⊎ (k ≡ Minus)) → A
-plain_zero k z p = ⊎_elim (λ (x : k ≡ Plus). clash (cc)) (λ (x : k ≡ Minus). clash (cc)) p
-
-block_zero : {A : Type 0} (k : Kind) → k ≡ Zero → ((k ≡ Loop) ⊎ (k ≡ While)) → A
-block_zero k z p = ⊎_elim (λ (x : k ≡ Loop). clash (cc)) (λ (x : k ≡ While). clash (cc)) p
-
--- What a record of each kind asks for.
-pub no_statement : (rs : Recs) (a e n : ℕ) → (at rs a).kind ≡ Zero → IsStatement rs a e n → ⊥
-no_statement rs a e n z (an_assignment k h) = plain_zero (at rs a).kind z k
-no_statement rs a e n z (a_block k h b) = block_zero (at rs a).kind z k
-
-pub assigned_of : (rs : Recs) (a e n : ℕ) → ((at rs a).kind ≡ Plus) ⊎ ((at rs a).kind ≡ Minus) → IsStatement rs a e n → Assigned (at rs a) (a + 1)
-assigned_of rs a e n o (an_assignment k h) = h
-assigned_of rs a e n o (a_block k h b) = plain_block (at rs a).kind o k
-
-pub headed_of : (rs : Recs) (a e n : ℕ) → ((at rs a).kind ≡ Loop) ⊎ ((at rs a).kind ≡ While) → IsStatement rs a e n → Headed (at rs a) (a + 1) e n
-headed_of rs a e n o (an_assignment k h) = plain_block (at rs a).kind k o
-headed_of rs a e n o (a_block k h b) = h
-
-pub body_of : (rs : Recs) (a e n : ℕ) → ((at rs a).kind ≡ Loop) ⊎ ((at rs a).kind ≡ While) → IsStatement rs a e n → Body rs (a + 1) (at rs a).end (n + 1)
-body_of rs a e n o (an_assignment k h) = plain_block (at rs a).kind k o
-body_of rs a e n o (a_block k h b) = b
 
 -- A statement ends behind its head, and within the body around it.
 pub forward : (rs : Recs) (a e n : ℕ) → a < e → IsStatement rs a e n → (a < (at rs a).end) × ((at rs a).end ≤ e)

@@ -1,11 +1,11 @@
 -- What single bytes, runs and digits of a text say.
 use Rattle.std.proofs.Common.{◌≡◌, ℕ, suc, ◌+◌, ◌-◌, ◌*◌, ◌<◌, ◌≤◌, cond, Bool, true, false, ◌&&◌, ◌||◌, T, eqb, leb, List, [], ◌∷◌, length, get_or, take, drop, Decides, sym, refl, ap, ◌∙◌, subst, add-zero, arith, take-append-drop, leb→le, length-drop, length-take, eq-eqb, eqb-true}
-use borrow.Author.Tests.{clash, eqb-false}
+use borrow.Author.Tests.{clash}
 use Rattle.std.specs.Char.{is_ascii_alphanumeric, is_ascii_digit}
 use Rattle.std.specs.Str.{all_ascii_digits}
 use Rattle.std.specs.List.{prefix_len, list_all}
 use Rattle.std.proofs.lemmas.List.Folds.{length-prefix_len}
-use Rattle.std.proofs.lemmas.List.{at_drop_more, at_drop_all}
+use Rattle.std.proofs.lemmas.List.{at_drop_more}
 use Rattle.reader.specs.Symbols.{PlacedSymbol}
 use Rattle.reader.specs.Text.{Blank, space, line_feed, Numeral, just_zero, some_digits, read_on, value, AllAlnum, Stops, Reads, a_blank}
 use Rattle.reader.specs.Lexing.{Run, is_blank}
@@ -94,44 +94,17 @@ pub read_on_ge : (n : ℕ) (w : List ℕ) → n ≤ read_on n w
 read_on_ge n [] = omega arith
 read_on_ge n (c ∷ cs) = omega (arith, read_on_ge (10 * n + (c - 48)) cs)
 
-module _ (w : List ℕ) (i : ℕ) where
-  pub value_all : (n : ℕ) → length w ≤ i → read_on n (drop i w) ≡ n
-  value_all n h = at_drop_all (read_on n) w i h
+module _ (w : List ℕ) (i : ℕ) (h : i < length w) where
+  value_more : (n : ℕ) → read_on n (drop i w) ≡ read_on (10 * n + (get_or w i 0 - 48)) (drop (i + 1) w)
+  value_more n = at_drop_more (read_on n) w i 0 h
 
-  module _ (h : i < length w) where
-    digits_more : all_ascii_digits (drop i w) ≡ (is_ascii_digit (get_or w i 0) && all_ascii_digits (drop (i + 1) w))
-    digits_more = at_drop_more all_ascii_digits w i 0 h
-
-    pub value_more : (n : ℕ) → read_on n (drop i w) ≡ read_on (10 * n + (get_or w i 0 - 48)) (drop (i + 1) w)
-    value_more n = at_drop_more (read_on n) w i 0 h
-
-    -- the digits read so far are too many
-    pub big : (n : ℕ) → 99999 < n → read_on n (drop i w) ≡ value w → 999999 < value w
-    big n b e = omega (arith, read_on_ge (10 * n + (get_or w i 0 - 48)) (drop (i + 1) w), value_more n)
-
-    first_digit : all_ascii_digits (drop i w) ≡ true → T (is_ascii_digit (get_or w i 0)) × T (all_ascii_digits (drop (i + 1) w))
-    first_digit e = both_hold _ _ (truth (sym digits_more ∙ e))
-
-    pub digit_on : all_ascii_digits (drop i w) ≡ true → all_ascii_digits (drop (i + 1) w) ≡ true
-    digit_on e = true_of _ (first_digit e).1
-
-    pub digit_low : all_ascii_digits (drop i w) ≡ true → 48 ≤ get_or w i 0
-    digit_low e = (digit_from _ (first_digit e).0).0
-
-    pub digit_high : all_ascii_digits (drop i w) ≡ true → get_or w i 0 ≤ 57
-    digit_high e = (digit_from _ (first_digit e).0).1
-
--- numbers
-pub positive : (w : List ℕ) → eqb (length w) 0 ≡ false → 0 < length w
-positive w e = let f = eqb-false (length w) 0 e in omega arith
+  -- the digits read so far are too many
+  pub big : (n : ℕ) → 99999 < n → read_on n (drop i w) ≡ value w → 999999 < value w
+  big n b e = omega (arith, read_on_ge (10 * n + (get_or w i 0 - 48)) (drop (i + 1) w), value_more n)
 
 pub digits_listed : (w : List ℕ) → list_all is_ascii_digit w ≡ all_ascii_digits w
 digits_listed [] = refl
 digits_listed (d ∷ w) = ap (λ b. is_ascii_digit d && b) (digits_listed w)
-
-pub none_empty : (w : List ℕ) → length w ≡ 0 → Decides false (Numeral w)
-none_empty [] h = ((λ e. absurd (not_both refl (truth e))), λ n. elim n [ ])
-none_empty (d ∷ ds) h = absurd (omega arith)
 
 pub zero_alone : (w : List ℕ) → get_or w 0 0 ≡ 48 → Decides (eqb (length w) 1) (Numeral w)
 zero_alone [] e = absurd (omega arith)
@@ -163,7 +136,3 @@ other_digits (d ∷ ds) h f = (there, back f)
     back : {d : ℕ} {ds : List ℕ} → (d ≡ 48 → ⊥) → Numeral (d ∷ ds) → all_ascii_digits (d ∷ ds) ≡ true
     back f just_zero = refl
     back {d} {ds} f (some_digits g k a) = both_true (is_ascii_digit d) (all_ascii_digits ds) k a
-
-pub digits_of : {w : List ℕ} → Numeral w → all_ascii_digits w ≡ true
-digits_of just_zero = refl
-digits_of (some_digits {d} {ds} g k a) = (other_digits (d ∷ ds) (omega arith) (λ e. omega arith)).1 (some_digits g k a)

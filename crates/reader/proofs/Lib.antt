@@ -5,7 +5,6 @@ pub mod Bodies
 pub mod Refusing
 pub mod Placing
 pub mod Parsing
-pub mod Filing
 pub mod Overwriting
 pub mod Halting
 pub mod Expecting

@@ -188,9 +188,6 @@ pub record Joined (end level n₀ m₀ : ℕ) (before : List (Placed Statement))
   pub judged : (zs : List PlacedSymbol) → judge end statement level n₀ m₀ (us ++ zs) ≡ judge end statement level n m zs
   pub join : (vs : List PlacedSymbol) (n' m' : ℕ) (after : List (Placed Statement)) → Parsed end level n m now vs n' m' after → Parsed end level n₀ m₀ before (us ++ vs) n' m' after
 
-pub joined_none : (end level n m : ℕ) (before : List (Placed Statement)) → Joined end level n m before [] n m before
-joined_none end level n m before = record { judged = λ zs. refl; join = λ vs n' m' after p. p }
-
 pub joined_more : {end level n₀ m₀ n m n₁ m₁ : ℕ} {before now after : List (Placed Statement)} (us vs : List PlacedSymbol) (q : ℕ) → Joined end level n₀ m₀ before us n m now → Parsed end level n m now vs n₁ m₁ after
     → Joined end level n₀ m₀ before (us ++ (vs ++ (placed q semicolon ∷ []))) n₁ m₁ after
 joined_more {end} {level} {n₀} {m₀} {n} {m} {n₁} {m₁} {before} us vs q j p = record {

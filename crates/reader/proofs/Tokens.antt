@@ -116,16 +116,6 @@ module _ (text : List ℕ) (place : ℕ) where
       subst (λ (l : List ℕ). Reads place l (placed place s ∷ zs)) (sym f.1)
       (a_mark m f.0 h (subst (λ (l : List ℕ). Reads (place + length m) l zs) (rest_at text place m f.0 f.1) k))
 
-  -- a token lies in the text
-  pub token_inside : (t : Token) → Stands (drop place text) t → place + width t ≤ length text
-  token_inside (token.Word w) r = inside w.now r.rest r.some r.split
-  token_inside (token.Number w) r = inside w.now r.rest r.some r.split
-  token_inside token.Assign f = inside (codes ":=") f.0 (omega arith) f.1
-  token_inside token.Unequal f = inside (codes "!=") f.0 (omega arith) f.1
-  token_inside token.Plus f = inside (codes "+") f.0 (omega arith) f.1
-  token_inside token.Minus f = inside (codes "-") f.0 (omega arith) f.1
-  token_inside token.Semicolon f = inside (codes ";") f.0 (omega arith) f.1
-
   said : {l k : Lexeme} → ◌≡◌ {A = Result Lexeme Refusal} (Ok l) (Ok k) → l ≡ k
   said e = cc
 
