@@ -2,6 +2,7 @@ ghost use Rattle.std.specs.Prelude.{◌≡◌, ℕ, ◌<◌, Decides};
 ghost use Rattle.reader.specs.Checks.{IsSheet, sibling, Assigned, Headed, Body, IsStatement, loops_in};
 
 use crate::level::Level;
+use crate::limits::{LOOPS, STATEMENTS};
 use crate::types::{Kind, Placed, Statement};
 
 // The index of the next statement of the same body, which ends before `body_end`; none after the last one.
@@ -73,10 +74,10 @@ pub fn loop_count(records: &[Placed<Statement>]) -> usize
 pub fn is_sheet(records: &[Placed<Statement>]) -> bool
     ensures { Decides result (IsSheet records.now) }
 {
-    if records.len() == 0 || records.len() > 256 {
+    if records.len() == 0 || records.len() > STATEMENTS {
         return false;
     }
-    if loop_count(records) > 32 {
+    if loop_count(records) > LOOPS {
         return false;
     }
     is_body(records, 0, records.len(), Level::outermost())

@@ -5,7 +5,8 @@ ghost use Rattle.reader.specs.Symbols.{placed};
 use crate::lexer::{next_token, token_lexeme, width};
 use crate::types::{Kind, Lexeme, Placed, Refusal, Statement};
 
-// A text, and the place from which reading goes on.
+// A text, and the place from which reading goes on. Each call leaves the text as it is; a clause says so, since no type says
+// how a `&mut` changes.
 #[derive(Drop)]
 pub struct Cursor<'a> {
     text: &'a [u8],

@@ -1,7 +1,6 @@
 ghost use Rattle.std.specs.Prelude.{ℕ, ◌≤◌};
 
-// The most LOOPs and WHILEs that a statement of a sheet stands in.
-const LEVELS: usize = 8;
+use crate::limits::LEVELS;
 
 // How many LOOPs and WHILEs a statement stands in.
 #[derive(Clone, Copy)]

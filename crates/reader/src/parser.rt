@@ -4,14 +4,10 @@ mod record_filing;
 
 use crate::cursor::{Cursor, out_of_order};
 use crate::level::Level;
+use crate::limits::{LOOPS, STATEMENTS};
 use crate::types::{Kind, Lexeme, Placed, Refusal, Statement};
 pub(crate) use record_filing::clear_from;
 use record_filing::{amend_record, file_record};
-
-// The most statements and LOOPs of a sheet.
-const STATEMENTS: usize = 256;
-
-const LOOPS: usize = 32;
 
 // How many statements and LOOPs have begun, within the limits of a sheet.
 #[derive(Drop)]

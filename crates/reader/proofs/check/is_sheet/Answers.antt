@@ -9,9 +9,9 @@ returns-then-records-eq0 c =
     let rs = c.args.records.now in
     refuted (λ h. let n = sheet_few rs h in let m = sheet_some rs h in omega (arith, c.then-records-eq0.either))
 
-pub returns-then-loop_count-gt32 : goal.returns-then-loop_count-gt32
-returns-then-loop_count-gt32 c =
-    refuted (λ h. omega (arith, sheet_loops c.args.records.now h, c.loop_count.ensures, c.if-loop_count-gt32.true))
+pub returns-then-loop_count-gt-LOOPS : goal.returns-then-loop_count-gt-LOOPS
+returns-then-loop_count-gt-LOOPS c =
+    refuted (λ h. omega (arith, sheet_loops c.args.records.now h, c.loop_count.ensures, c.if-loop_count-gt-LOOPS.true))
 
 pub returns : goal.returns
 returns c =
