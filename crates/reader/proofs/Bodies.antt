@@ -8,16 +8,17 @@ use Rattle.reader.specs.declared.types.Lexeme.TheVariants as lexeme
 use Rattle.reader.specs.declared.types.Statement.{Statement}
 use Rattle.reader.specs.declared.cursor.Cursor.{Cursor}
 use Rattle.reader.specs.declared.parser.Parser.{Parser}
+use Rattle.reader.specs.declared.level.Level.{Level}
 use Rattle.reader.specs.Symbols.{Symbol, END, semicolon, PlacedSymbol, placed}
 use Rattle.reader.specs.Text.{Reads}
 use Rattle.reader.specs.Machine.{Expect}
 use Rattle.reader.specs.Records.{statement_of}
 use Rattle.reader.specs.Lexing.{meant, Fine, Between, LexemeRead}
 use Rattle.reader.specs.Expecting.{Required, Closed, Halts}
-use Rattle.reader.specs.Parsing.{text_of, pos_of, memory_of, Kept, Parsed, RefusedBehind, StatementRead, Follows, Opening, Admitted, admits_loop, admits_while, Head, HeadRead}
+use Rattle.reader.specs.Parsing.{text_of, pos_of, memory_of, Kept, Parsed, RefusedBehind, StatementRead, Follows, Opening, Admitted, Head, BlockAdmitted, BlockHeadRead, RecordFiled}
 use Rattle.reader.proofs.Counts.{small_register, size_spelled}
 use Rattle.reader.proofs.Parsing.{Joined, joined_more, parsed_block}
-use Rattle.reader.proofs.Refusing.{behind-first, joined_refused, follows_flawed, block_open, body_bad}
+use Rattle.reader.proofs.Refusing.{behind-first, follows_flawed, block_open, body_bad}
 
 pub kept_then : (a s z : Parser) → Kept a s → Kept s z → Kept a z
 kept_then a s z k l = record { text = l.text ∙ k.text; room = l.room ∙ k.room; loan = l.loan ∙ k.loan }
@@ -40,11 +41,6 @@ SoFar level a s =
     × Kept a s
 
 module _ (level : ℕ) (a s z : Parser) (far : SoFar level a s) where
-  pub statement_refused : (e : Placed Refusal) → RefusedBehind [] (text_of s) (pos_of s) level s.counts.statements s.counts.loops e → RefusedBehind [] (text_of a) (pos_of a) level a.counts.statements a.counts.loops e
-  statement_refused e r =
-      joined_refused (text_of a) (pos_of a) (pos_of s) far.0 e far.2 far.1
-      (subst (λ t. RefusedBehind [] t (pos_of s) level s.counts.statements s.counts.loops e) far.3.text r)
-
   module _ (one : Statements level s z) where
     moved : Between (text_of a) (pos_of s) (pos_of z) one.0 × Parsed (length (text_of a)) level s.counts.statements s.counts.loops (memory_of s) one.0 z.counts.statements z.counts.loops (memory_of z)
     moved =
@@ -115,14 +111,6 @@ first-between text from to x l e r = subst (λ k. Between text from to (placed x
 pub first_small : (text : List ℕ) (from to : ℕ) (x : Placed Lexeme) (i : ℕ) → x.item ≡ lexeme.Register i → Required text from (Ok x) to → i ≤ 31
 first_small text from to x i e r = small_register i (subst (λ k. Fine (meant k)) e r.1)
 
-pub admitted_level : {level n m m' : ℕ} {k : Kind} → Admitted level n m k None m' → level < 8
-admitted_level (admits_loop h _ _) = h
-admitted_level (admits_while h _) = h
-
-pub admitted_few : {level n m m' : ℕ} {k : Kind} → Admitted level n m k None m' → n < 256
-admitted_few (admits_loop _ h _) = h
-admitted_few (admits_while _ h) = h
-
 -- a LOOP or WHILE that began in the state a, whose body is read next, in the state b
 pub record Inside (level i : ℕ) (k : Kind) (a b : Parser) : Type 0 where
   pub admitted : Admitted level a.counts.statements a.counts.loops k None b.counts.loops
@@ -135,22 +123,22 @@ pub record Inside (level i : ℕ) (k : Kind) (a b : Parser) : Type 0 where
   pub first : memory_of b ≡ set (memory_of a) a.counts.statements zero
   pub kept : Kept a b
 
-module _ (level i : ℕ) (k : Kind) (a a₁ a₂ b : Parser) (x : Expect) (z : Placed Statement) where
-  pub inside : Admitted level a.counts.statements a.counts.loops k None a₁.counts.loops → a₁.counts.statements ≡ a.counts.statements → memory_of a₁ ≡ memory_of a → Kept a a₁ → pos_of a₁ ≡ pos_of a
-      → HeadRead x k (text_of a₁) (pos_of a₁) (Ok i) (pos_of a₂) → (a₂.counts.statements ≡ a₁.counts.statements) × (a₂.counts.loops ≡ a₁.counts.loops) → memory_of a₂ ≡ memory_of a₁ → Kept a₁ a₂
-      → b.counts.statements ≡ suc a₂.counts.statements → b.counts.loops ≡ a₂.counts.loops → memory_of b ≡ set (memory_of a₂) a₂.counts.statements z → Kept a₂ b → pos_of b ≡ pos_of a₂
-      → Inside level i k a b
-  inside ad n₁ k₁ kept₁ p₁ h e₂ k₂ kept₂ n₃ m₃ k₃ kept₃ p₃ = record {
-    admitted = subst (λ m. Admitted level a.counts.statements a.counts.loops k None m) (sym (m₃ ∙ e₂.1)) ad;
-    hs = h.0;
-    head = h.2;
-    small = h.3;
-    between = subst (λ t. Between t (pos_of a) (pos_of b) h.0) kept₁.text (subst (λ f. Between (text_of a₁) f (pos_of b) h.0) p₁ (subst (λ f. Between (text_of a₁) (pos_of a₁) f h.0) (sym p₃) h.1));
-    begun = n₃ ∙ ap suc (e₂.0 ∙ n₁);
-    zero = z;
-    first = k₃ ∙ (ap (λ n. set (memory_of a₂) n z) (e₂.0 ∙ n₁) ∙ ap (λ m. set m a.counts.statements z) (k₂ ∙ k₁));
-    kept = kept_then a a₂ b (kept_then a a₁ a₂ kept₁ kept₂) kept₃;
-  }
+pub inside : {level place i j : ℕ} {k : Kind} {a a₁ a₂ b : Parser} {s : Symbol} {x : Expect} {inner : Level} {z : Placed Statement} → Opening k s x
+    → BlockAdmitted level k place a (Ok inner) a₁ → BlockHeadRead k a₁ (Ok i) a₂ → RecordFiled z a₂ j b → Inside level i k a b
+inside {level} {k = k} {a} {a₁} {a₂} {b} {s} {x} {z = z} o m h f =
+    let r = h.read s x o in
+    let begun : a₂.counts.statements ≡ a.counts.statements = h.begun.0 ∙ m.begun in
+    record {
+      admitted = subst (λ n. Admitted level a.counts.statements a.counts.loops k None n) (sym (f.loops ∙ h.begun.1)) m.admitted.0;
+      hs = r.0;
+      head = r.2;
+      small = r.3;
+      between = subst (λ t. Between t (pos_of a) (pos_of b) r.0) m.kept.text (subst (λ n. Between (text_of a₁) n (pos_of b) r.0) m.pos (subst (λ n. Between (text_of a₁) (pos_of a₁) n r.0) (sym f.pos) r.1));
+      begun = f.begun ∙ ap suc begun;
+      zero = z;
+      first = f.filed ∙ (ap (λ n. set (memory_of a₂) n z) begun ∙ ap (λ l. set l a.counts.statements z) (h.memory ∙ m.memory));
+      kept = kept_then a a₂ b (kept_then a a₁ a₂ m.kept h.kept) f.kept;
+    }
 
 module _ (level place i : ℕ) (k : Kind) (a b : Parser) (w : Inside level i k a b) where
   at_body : (e : Placed Refusal) → RefusedBehind [] (text_of b) (pos_of b) (level + 1) b.counts.statements b.counts.loops e → RefusedBehind [] (text_of a) (pos_of b) (suc level) (suc a.counts.statements) b.counts.loops e

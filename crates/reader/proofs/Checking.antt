@@ -1,5 +1,5 @@
 -- The check of records, each way.
-use Rattle.std.proofs.Common.{◌≡◌, ℕ, suc, ◌+◌, ◌<◌, ◌≤◌, max, cond, nat_eq, Bool, true, false, ◌⊎◌, List, [], ◌∷◌, ◌++◌, length, drop, Decides, sym, refl, ap, ◌∙◌, subst, inl, inr, ⊎_elim, add-one, arith}
+use Rattle.std.proofs.Common.{◌≡◌, ℕ, suc, ◌+◌, ◌<◌, ◌≤◌, max, cond, nat_eq, Bool, true, false, ◌⊎◌, List, [], ◌∷◌, ◌++◌, length, drop, Decides, sym, refl, ap, ◌∙◌, subst, inl, inr, ⊎_elim, add-one, arith, eqb-true, eq-eqb}
 use Rattle.std.specs.List.{count_by}
 use Rattle.std.proofs.lemmas.List.Recursion.{is_count_by}
 use Rattle.std.proofs.lemmas.List.{at_drop_more, at_drop_all}
@@ -7,9 +7,9 @@ use Rattle.reader.specs.declared.types.Kind.{Kind}
 use Rattle.reader.specs.declared.types.Kind.TheVariants.{Zero, Plus, Minus, Loop, While}
 use Rattle.reader.specs.declared.types.Statement.{Statement}
 use Rattle.reader.specs.Sheet.{Sheet, done, plus, minus, loop, while, Some, Whole, Fit, depth, size, loops}
-use Rattle.reader.specs.Records.{statement_of, records_from, records, zero_record}
-use Rattle.reader.specs.Checks.{items, at, Spans, IsSheet, Assigned, Headed, Body, IsStatement, an_assignment, a_block, loop_count, loops_in}
-use Rattle.reader.proofs.Spans.{Recs, same_all, spans_all, spans_size, some_more, some_of}
+use Rattle.reader.specs.Records.{statement_of, records_from, records, zero_record, kind_number}
+use Rattle.reader.specs.Checks.{items, at, Spans, IsSheet, Body, IsStatement, an_assignment, a_block, loop_count, loops_in}
+use Rattle.reader.proofs.Spans.{Recs, same_all, spans_all, spans_size, spans_within, present, some_more, some_of}
 
 -- A test that came out false of what does not hold.
 pub refuted : {P : Type 0} → (P → ⊥) → Decides false P
@@ -39,37 +39,6 @@ eta_head s k p q r =
     ap (λ (x : Kind). statement_of x s.target s.source s.constant s.end) p
     ∙ ap (λ (x : ℕ). statement_of k x s.source s.constant s.end) q
     ∙ ap (λ (x : ℕ). statement_of k 0 s.source x s.end) r
-
--- The kinds of a statement exclude each other.
-plain_block : {A : Type 0} (k : Kind) → ((k ≡ Plus) ⊎ (k ≡ Minus)) → ((k ≡ Loop) ⊎ (k ≡ While)) → A
-plain_block k p q =
-    ⊎_elim
-    (λ (x : k ≡ Plus). ⊎_elim (λ (y : k ≡ Loop). clash (cc)) (λ (y : k ≡ While). clash (cc)) q)
-    (λ (x : k ≡ Minus). ⊎_elim (λ (y : k ≡ Loop). clash (cc)) (λ (y : k ≡ While). clash (cc)) q)
-    p
-
-plain_zero : {A : Type 0} (k : Kind) → k ≡ Zero → ((k ≡ Plus) ⊎ (k ≡ Minus)) → A
-plain_zero k z p = ⊎_elim (λ (x : k ≡ Plus). clash (cc)) (λ (x : k ≡ Minus). clash (cc)) p
-
-block_zero : {A : Type 0} (k : Kind) → k ≡ Zero → ((k ≡ Loop) ⊎ (k ≡ While)) → A
-block_zero k z p = ⊎_elim (λ (x : k ≡ Loop). clash (cc)) (λ (x : k ≡ While). clash (cc)) p
-
--- What a record of each kind asks for.
-pub no_statement : (rs : Recs) (a e n : ℕ) → (at rs a).kind ≡ Zero → IsStatement rs a e n → ⊥
-no_statement rs a e n z (an_assignment k h) = plain_zero (at rs a).kind z k
-no_statement rs a e n z (a_block k h b) = block_zero (at rs a).kind z k
-
-pub assigned_of : (rs : Recs) (a e n : ℕ) → ((at rs a).kind ≡ Plus) ⊎ ((at rs a).kind ≡ Minus) → IsStatement rs a e n → Assigned (at rs a) (a + 1)
-assigned_of rs a e n o (an_assignment k h) = h
-assigned_of rs a e n o (a_block k h b) = plain_block (at rs a).kind o k
-
-pub headed_of : (rs : Recs) (a e n : ℕ) → ((at rs a).kind ≡ Loop) ⊎ ((at rs a).kind ≡ While) → IsStatement rs a e n → Headed (at rs a) (a + 1) e n
-headed_of rs a e n o (an_assignment k h) = plain_block (at rs a).kind k o
-headed_of rs a e n o (a_block k h b) = h
-
-pub body_of : (rs : Recs) (a e n : ℕ) → ((at rs a).kind ≡ Loop) ⊎ ((at rs a).kind ≡ While) → IsStatement rs a e n → Body rs (a + 1) (at rs a).end (n + 1)
-body_of rs a e n o (an_assignment k h) = plain_block (at rs a).kind k o
-body_of rs a e n o (a_block k h b) = b
 
 -- A statement ends behind its head, and within the body around it.
 pub forward : (rs : Recs) (a e n : ℕ) → a < e → IsStatement rs a e n → (a < (at rs a).end) × ((at rs a).end ≤ e)
@@ -168,6 +137,25 @@ less_of rs a e n (while j q p) lt h g f d = less_block rs a e n j h.0 While q p 
 
 pub body_less : (rs : Recs) (a e n : ℕ) → a < e → Body rs a e n → IsStatement rs a e n × Body rs (at rs a).end e n
 body_less rs a e n lt h = less_of rs a e n h.sheet lt h.spans h.whole h.fit h.shallow
+
+-- What is a statement or a body lies in the records.
+pub statement_within : (rs : Recs) (a e n : ℕ) → IsStatement rs a e n → a < length rs
+statement_within rs a e n (an_assignment k h) = present rs a (at rs a) refl (⊎_elim (λ x. go Plus x (omega arith)) (λ x. go Minus x (omega arith)) k)
+  where
+    go : (k : Kind) → (at rs a).kind ≡ k → 0 < kind_number k → 0 < kind_number (at rs a).kind
+    go k x h = subst (λ (k : Kind). 0 < kind_number k) (sym x) h
+statement_within rs a e n (a_block k h b) = present rs a (at rs a) refl (⊎_elim (λ x. go Loop x (omega arith)) (λ x. go While x (omega arith)) k)
+  where
+    go : (k : Kind) → (at rs a).kind ≡ k → 0 < kind_number k → 0 < kind_number (at rs a).kind
+    go k x h = subst (λ (k : Kind). 0 < kind_number k) (sym x) h
+
+pub body_within : (rs : Recs) (a e : ℕ) → a < e → Body rs a e 0 → e ≤ length rs
+body_within rs a e lt h = let s = statement_within rs a e 0 (body_less rs a e 0 lt h).0 in spans_within rs a e h.sheet (omega arith) h.spans
+
+-- Behind its last statement a body is over exactly where it should be.
+pub body_end : (rs : Recs) (from a e n : ℕ) → e ≤ a → n ≤ 8 → (Body rs a e n → Body rs from e n) → (Body rs from e n → Body rs a e n) → Decides (nat_eq a e) (Body rs from e n)
+body_end rs from a e n le few f g =
+    (λ t. f (body_none rs a e n (eqb-true a e t) few), λ b. let h = g b in eq-eqb a e (omega (arith, spans_size rs a e h.sheet h.spans)))
 
 -- The LOOPs of a sheet, counted by its records.
 count : List Statement → ℕ

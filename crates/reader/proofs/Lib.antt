@@ -5,7 +5,6 @@ pub mod Bodies
 pub mod Refusing
 pub mod Placing
 pub mod Parsing
-pub mod Filing
 pub mod Overwriting
 pub mod Halting
 pub mod Expecting
@@ -30,7 +29,6 @@ pub mod Steps
 pub mod Spans
 pub mod Checking
 pub mod Printing
-pub mod Digits
 pub mod Pages
 pub mod Statements
 pub mod Prints

@@ -1,20 +1,9 @@
 -- Bytes and symbols put on a page, one after another.
-use Rattle.std.proofs.Common.{◌≡◌, ℕ, zero, suc, ◌+◌, ◌<◌, ◌≤◌, List, [], ◌∷◌, ◌++◌, length, get_or, drop, set, sym, refl, ap, ◌∙◌, append_assoc, add-zero, add-one, arith, length-append, length-drop}
+use Rattle.std.proofs.Common.{◌≡◌, ℕ, zero, suc, ◌+◌, ◌<◌, ◌≤◌, List, [], ◌∷◌, ◌++◌, length, drop, set, sym, refl, ap, ◌∙◌, append_assoc, add-zero, arith, length-append, length-drop}
 use lib.Seq.{set_at}
-use Rattle.std.proofs.lemmas.List.{set_past, at_drop_more, at_drop_all}
-use Rattle.reader.specs.declared.types.Lexeme.{Lexeme}
-use Rattle.reader.specs.declared.types.Lexeme.TheVariants as lexeme
 use Rattle.reader.specs.Symbols.{Symbol}
-use Rattle.reader.specs.Lexing.{meant}
 use Rattle.reader.specs.Printed.{bytes_of, gap, text_on, text_of}
-use Rattle.reader.specs.Pages.{Page, page_of, put_bytes, gap_after, put_symbols, meanings}
-
--- One byte, on the page or past its end.
-pub put_within : (m : List ℕ) (n l b : ℕ) → page_of (set m n b) (n + 1) l ≡ put_bytes (b ∷ []) (page_of m n l)
-put_within m n l b = ap (λ (k : ℕ). page_of (set m n b) k l) (add-one n)
-
-pub put_past : (m : List ℕ) (n l b : ℕ) → length m ≤ n → page_of m (n + 1) l ≡ put_bytes (b ∷ []) (page_of m n l)
-put_past m n l b h = ap (λ (k : ℕ). page_of m k l) (add-one n) ∙ ap (λ (k : List ℕ). page_of k (suc n) l) (sym (set_past m n b h))
+use Rattle.reader.specs.Pages.{Page, page_of, put_bytes, gap_after, put_symbols}
 
 pub put_append : (xs ys : List ℕ) (g : Page) → put_bytes (xs ++ ys) g ≡ put_bytes ys (put_bytes xs g)
 put_append [] ys g = refl
@@ -24,29 +13,9 @@ pub put_count : (xs : List ℕ) (g : Page) → (put_bytes xs g).written ≡ g.wr
 put_count [] g = sym (add-zero g.written)
 put_count (b ∷ xs) g = put_count xs (page_of (set g.memory g.written b) (suc g.written) g.lent) ∙ omega arith
 
--- The scan of the bytes.
-pub bytes_more : (xs : List ℕ) (i : ℕ) (g h k : Page) → i < length xs → put_bytes (drop i xs) g ≡ h → k ≡ put_bytes (get_or xs i 0 ∷ []) g → put_bytes (drop (i + 1) xs) k ≡ h
-bytes_more xs i g h k lt e q =
-    ap (put_bytes (drop (i + 1) xs)) q ∙ sym (at_drop_more (λ (l : List ℕ). put_bytes l g) xs i 0 lt) ∙ e
-
-pub bytes_all : (xs : List ℕ) (i : ℕ) (g h : Page) → length xs ≤ i → put_bytes (drop i xs) g ≡ h → g ≡ h
-bytes_all xs i g h le e = sym (at_drop_all (λ (l : List ℕ). put_bytes l g) xs i le) ∙ e
-
 pub bytes_room : (xs : List ℕ) (i : ℕ) (g h : Page) → i < length xs → put_bytes (drop i xs) g ≡ put_bytes xs h → h.written + length xs ≤ 65536 → g.written < 65536
 bytes_room xs i g h lt e le =
     omega (arith, put_count (drop i xs) g, put_count xs h, ap (λ (p : Page). p.written) e, length-drop i xs)
-
--- The scan of the tokens.
-pub tokens_more : (ls : List Lexeme) (i : ℕ) (f g h k : Page) → i < length ls → put_symbols (meanings (drop i ls)) f ≡ h
-    → g ≡ put_bytes (gap_after f.written (meant (get_or ls i lexeme.Loop))) f → k ≡ put_bytes (bytes_of (meant (get_or ls i lexeme.Loop))) g
-    → put_symbols (meanings (drop (i + 1) ls)) k ≡ h
-tokens_more ls i f g h k lt e p q =
-    let s = meant (get_or ls i lexeme.Loop) in
-    ap (put_symbols (meanings (drop (i + 1) ls))) (q ∙ ap (put_bytes (bytes_of s)) p ∙ sym (put_append (gap_after f.written s) (bytes_of s) f))
-    ∙ sym (at_drop_more (λ (l : List Lexeme). put_symbols (meanings l) f) ls i lexeme.Loop lt) ∙ e
-
-pub tokens_all : (ls : List Lexeme) (i : ℕ) (g h : Page) → length ls ≤ i → put_symbols (meanings (drop i ls)) g ≡ h → g ≡ h
-tokens_all ls i g h le e = sym (at_drop_all (λ (l : List Lexeme). put_symbols (meanings l) g) ls i le) ∙ e
 
 pub symbols_append : (xs ys : List Symbol) (g : Page) → put_symbols (xs ++ ys) g ≡ put_symbols ys (put_symbols xs g)
 symbols_append [] ys g = refl

@@ -1,5 +1,5 @@
 -- How the parts of a sheet join as they are parsed.
-use Rattle.std.proofs.Common.{◌≡◌, ℕ, suc, ◌+◌, ◌<◌, ◌≤◌, List, [], ◌∷◌, ◌++◌, set, None, Ok, Err, Result, sym, refl, ap, ◌∙◌, subst, ap₂, append_assoc, append-nil, arith}
+use Rattle.std.proofs.Common.{◌≡◌, ℕ, suc, ◌+◌, ◌<◌, ◌≤◌, List, [], ◌∷◌, ◌++◌, set, None, Ok, Err, Result, sym, refl, ap, ◌∙◌, subst, ap₂, append_assoc, append-nil, arith, Some, Option}
 use Rattle.reader.specs.declared.types.Placed.{Placed}
 use Rattle.reader.specs.declared.types.Refusal.{Refusal}
 use Rattle.reader.specs.declared.types.Kind.{Kind}
@@ -12,19 +12,38 @@ use Rattle.reader.specs.Machine.{Expect, statement, loop_register, while_registe
 use Rattle.reader.specs.Records.{statement_of, records_from, with_places}
 use Rattle.filing.specs.Tables.{overwrite}
 use Rattle.reader.specs.Expecting.{Sign, sign_plus, sign_minus, Assigned, assigned, LoopHeadRead, WhileHeadRead}
+use Rattle.std.specs.Prelude.{MatchOption}
+use Rattle.std.specs.Option.{ok_or}
+use Rattle.reader.specs.declared.level.Level.{Level}
+use Rattle.reader.specs.declared.parser.BlockKind.{BlockKind}
+use Rattle.reader.specs.declared.parser.BlockKind.TheVariants as block
 use Rattle.reader.specs.Lexing.{Between}
-use Rattle.reader.specs.Parsing.{Parsed, Opening, opening_loop, opening_while, Block, Admitted, admits_loop, admits_while, Head, head_loop, head_while, HeadRead}
+use Rattle.reader.specs.Parsing.{Parsed, Opening, opening_loop, opening_while, kind_of, Admitted, admits_loop, admits_while, Head, head_loop, head_while, HeadRead}
 use Rattle.reader.proofs.Counts.{fine_number, fine_register, size-then}
 use Rattle.reader.proofs.Parts.{judge_plain, judge_begins, went_plus, went_minus}
 use Rattle.reader.proofs.Overwriting.{overwrite_append, amended}
 use Rattle.reader.proofs.Placing.{symbols_append, heads_end, placed_records, length-placed, placed-then}
 
-pub while_else : (k : Kind) → Block k → (k ≡ kind.Loop → ⊥) → k ≡ kind.While
-while_else k b f = go b.2 f
-  where
-    go : {k : Kind} {s : Symbol} {x : Expect} → Opening k s x → (k ≡ kind.Loop → ⊥) → k ≡ kind.While
-    go opening_loop f = absurd (f refl)
-    go opening_while f = refl
+-- each block has an opening
+pub opens : (b : BlockKind) → (s : Symbol) × (x : Expect) × Opening (kind_of b) s x
+opens block.Loop = (LOOP, loop_register, opening_loop)
+opens block.While = (WHILE, while_register, opening_while)
+
+-- the level inside a block
+module _ (d : ℕ) (o : Option Level) (e : Placed Refusal) (m : MatchOption o (d ≡ 8) (λ l. (d < 8) × (l.depth ≡ d + 1))) where
+  pub entered : (l : Level) → Ok l ≡ ok_or o e → (d < 8) × (l.depth ≡ d + 1)
+  entered l k = go o m k
+    where
+      go : (o : Option Level) → MatchOption o (d ≡ 8) (λ l. (d < 8) × (l.depth ≡ d + 1)) → Ok l ≡ ok_or o e → (d < 8) × (l.depth ≡ d + 1)
+      go None m k = let z : ◌≡◌ {A = ℕ} 0 1 = cc in absurd (omega arith)
+      go (Some i) m k = let same : i ≡ l = cc in subst (λ (l : Level). (d < 8) × (l.depth ≡ d + 1)) same m
+
+  pub not_entered : (f : Placed Refusal) → ◌≡◌ {A = Result Level (Placed Refusal)} (Err f) (ok_or o e) → (d ≡ 8) × (f ≡ e)
+  not_entered f k = go o m k
+    where
+      go : (o : Option Level) → MatchOption o (d ≡ 8) (λ l. (d < 8) × (l.depth ≡ d + 1)) → ◌≡◌ {A = Result Level (Placed Refusal)} (Err f) (ok_or o e) → (d ≡ 8) × (f ≡ e)
+      go None m k = (m, cc)
+      go (Some i) m k = let z : ◌≡◌ {A = ℕ} 0 1 = cc in absurd (omega arith)
 
 loop_expects : {k : Kind} {s : Symbol} {x : Expect} → k ≡ kind.Loop → Opening k s x → x ≡ loop_register
 loop_expects e opening_loop = refl
@@ -168,9 +187,6 @@ module _ {end level n m m₁ n₂ m₂ i : ℕ} {k : Kind} {s : Symbol} {x : Exp
 pub record Joined (end level n₀ m₀ : ℕ) (before : List (Placed Statement)) (us : List PlacedSymbol) (n m : ℕ) (now : List (Placed Statement)) : Type 0 where
   pub judged : (zs : List PlacedSymbol) → judge end statement level n₀ m₀ (us ++ zs) ≡ judge end statement level n m zs
   pub join : (vs : List PlacedSymbol) (n' m' : ℕ) (after : List (Placed Statement)) → Parsed end level n m now vs n' m' after → Parsed end level n₀ m₀ before (us ++ vs) n' m' after
-
-pub joined_none : (end level n m : ℕ) (before : List (Placed Statement)) → Joined end level n m before [] n m before
-joined_none end level n m before = record { judged = λ zs. refl; join = λ vs n' m' after p. p }
 
 pub joined_more : {end level n₀ m₀ n m n₁ m₁ : ℕ} {before now after : List (Placed Statement)} (us vs : List PlacedSymbol) (q : ℕ) → Joined end level n₀ m₀ before us n m now → Parsed end level n m now vs n₁ m₁ after
     → Joined end level n₀ m₀ before (us ++ (vs ++ (placed q semicolon ∷ []))) n₁ m₁ after

@@ -1,5 +1,5 @@
 -- Where the parser refuses, the machine refuses so.
-use Rattle.std.proofs.Common.{◌≡◌, ℕ, suc, ◌<◌, ◌≤◌, List, [], ◌∷◌, ◌++◌, length, drop, Some, None, Ok, Err, Option, sym, refl, ap, ◌∙◌, arith}
+use Rattle.std.proofs.Common.{◌≡◌, ℕ, suc, ◌<◌, ◌≤◌, List, [], ◌∷◌, ◌++◌, length, drop, Some, None, Ok, Err, Option, sym, refl, ap, ◌∙◌, subst, arith}
 use Rattle.reader.specs.declared.types.Placed.{Placed}
 use Rattle.reader.specs.declared.types.Refusal.{Refusal}
 use Rattle.reader.specs.declared.types.Refusal.TheVariants.{OutOfOrder, TooMany}
@@ -67,7 +67,7 @@ module _ (text : List ℕ) (from level n m : ℕ) where
 
   -- a LOOP or WHILE
   module _ (place : ℕ) where
-    pub block_limit : {k : Kind} {s : Symbol} {x : Expect} {m' : ℕ} (f : Refusal) → Opening k s x → Admitted level n m k (Some f) m' → RefusedBehind (placed place s ∷ []) text from level n m (placed place f)
+    block_limit : {k : Kind} {s : Symbol} {x : Expect} {m' : ℕ} (f : Refusal) → Opening k s x → Admitted level n m k (Some f) m' → RefusedBehind (placed place s ∷ []) text from level n m (placed place f)
     block_limit f o a = let r = some_reading from (drop from text) in (r.0, r.1, go r.0 o a)
       where
         go : {k : Kind} {s : Symbol} {x : Expect} {m' : ℕ} {f : Refusal} (ys : List PlacedSymbol) → Opening k s x → Admitted level n m k (Some f) m' → judge (length text) statement level n m (placed place s ∷ ys) ≡ refused (refusal_number f) place
@@ -76,6 +76,9 @@ module _ (text : List ℕ) (from level n m : ℕ) where
         go ys opening_loop (too_many_loops hl hn e) = judge-loops (length text) statement level n m (placed place LOOP) ys (λ k f. elim f [ ]) to_loop (λ h. omega (arith, h.1)) is_loop e
         go ys opening_while (too_deep e) = judge_deep (length text) statement level n m (placed place WHILE) ys (λ k f. elim f [ ]) to_while opens_while e
         go ys opening_while (too_many hl e) = judge-many (length text) statement level n m (placed place WHILE) ys (λ k f. elim f [ ]) to_while (λ h. omega (arith, h.1)) begun e
+
+    pub block_refused : {k : Kind} {s : Symbol} {x : Expect} {m' : ℕ} (e : Placed Refusal) → Opening k s x → Admitted level n m k (Some e.item) m' → e.place ≡ place → RefusedBehind (placed place s ∷ []) text from level n m e
+    block_refused {s = s} e o a p = subst (λ q. RefusedBehind (placed place s ∷ []) text from level n m (placed q e.item)) (sym p) (block_limit e.item o a)
 
     module _ {k : Kind} {s : Symbol} {x : Expect} {m₁ : ℕ} (o : Opening k s x) (a : Admitted level n m k None m₁) (e : Placed Refusal) where
       pub head_bad : Halts text from x e → RefusedBehind (placed place s ∷ []) text from level n m e

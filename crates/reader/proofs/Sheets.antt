@@ -1,6 +1,7 @@
 -- A whole text: what the parser accepts and refuses is what the grammar and the table of refusals say.
-use Rattle.std.proofs.Common.{◌≡◌, ℕ, suc, ◌+◌, ◌-◌, ◌<◌, ◌≤◌, List, [], ◌∷◌, ◌++◌, length, take, drop, set, Some, None, Ok, Err, Option, sym, ap, ◌∙◌, subst, append_assoc, append-nil, zero-add, arith, length-set}
+use Rattle.std.proofs.Common.{◌≡◌, ℕ, suc, ◌+◌, ◌-◌, ◌<◌, ◌≤◌, List, [], ◌∷◌, ◌++◌, length, take, drop, set, Some, None, Ok, Err, Option, sym, ap, ◌∙◌, subst, append_assoc, append-nil, zero-add, arith, length-set, Result}
 use Rattle.std.proofs.lemmas.List.{take_more_set}
+use Rattle.std.specs.Result.{result_unwrap_or}
 use Rattle.reader.specs.declared.types.Placed.{Placed}
 use Rattle.reader.specs.declared.types.Refusal.{Refusal}
 use Rattle.reader.specs.declared.types.Refusal.TheVariants.{TreeFull}
@@ -107,7 +108,7 @@ module _ (text : List ℕ) (room : ℕ) (short : length text ≤ 16384) where
       go (sheet_large r s l) = tree_full (record { short = short; reads = r }) s l
 
   -- the records stand from the front, and the rest is cleared
-  pub answered_ok : (n : ℕ) (before now after : List (Placed Statement)) → length before ≡ room → SheetRead room text before (Ok n) now → after ≡ take n now ++ cleared (length now - n) → ReadAnswers text room (Ok n) after
+  answered_ok : (n : ℕ) (before now after : List (Placed Statement)) → length before ≡ room → SheetRead room text before (Ok n) now → after ≡ take n now ++ cleared (length now - n) → ReadAnswers text room (Ok n) after
   answered_ok n before now after er h f =
       let ys = h.0 in
       let p = h.1 in
@@ -124,5 +125,9 @@ module _ (text : List ℕ) (room : ℕ) (short : length text ≤ 16384) where
       subst (λ k. ReadAnswers text room (Ok k) after) (sym en)
       (subst (ReadAnswers text room (Ok (size p))) (sym memory) (accepts (record { short = short; reads = h.2 }) h.3 (omega (arith, h.5))))
 
-  pub answered_err : (e : Placed Refusal) (before now after : List (Placed Statement)) → length before ≡ room → SheetRead room text before (Err e) now → after ≡ take 0 now ++ cleared (length now - 0) → ReadAnswers text room (Err e) after
+  answered_err : (e : Placed Refusal) (before now after : List (Placed Statement)) → length before ≡ room → SheetRead room text before (Err e) now → after ≡ take 0 now ++ cleared (length now - 0) → ReadAnswers text room (Err e) after
   answered_err e before now after er h f = answer_refused e after (f ∙ all_cleared now room (h.1 ∙ er)) h.0
+
+  pub answered : (r : Result ℕ (Placed Refusal)) (k : ℕ) (before now after : List (Placed Statement)) → length before ≡ room → SheetRead room text before r now → k ≡ result_unwrap_or r 0 → after ≡ take k now ++ cleared (length now - k) → ReadAnswers text room r after
+  answered (Ok n) k before now after er h e f = answered_ok n before now after er h (subst (λ j. after ≡ take j now ++ cleared (length now - j)) e f)
+  answered (Err x) k before now after er h e f = answered_err x before now after er h (subst (λ j. after ≡ take j now ++ cleared (length now - j)) e f)

@@ -1,9 +1,14 @@
 -- Which token stands at a place of a text, and what is read there.
-use Rattle.std.proofs.Common.{◌≡◌, ℕ, suc, ◌+◌, ◌-◌, ◌<◌, ◌≤◌, false, T, List, [], ◌∷◌, ◌++◌, length, get_or, take, drop, Some, None, Ok, Err, codes, Option, Result, sym, refl, ap, ◌∙◌, subst, ⊎_elim, add-zero, arith, length-append, length-drop, length-take}
+use Rattle.std.proofs.Common.{◌≡◌, ℕ, suc, ◌+◌, ◌<◌, ◌≤◌, T, List, [], ◌∷◌, ◌++◌, length, get_or, take, drop, Some, None, Ok, Err, codes, Option, Result, sym, refl, ap, ◌∙◌, subst, ◌⊎◌, inl, inr, ⊎_elim, arith, length-append, length-drop}
 use Rattle.std.specs.Prelude.{MatchResult, IsErrAnd}
 use Rattle.std.specs.Char.{is_ascii_alphanumeric}
-use Rattle.std.proofs.lemmas.List.{drop_more, drop_all, drop-drop, drop_at, take-append-drop, get_or-drop}
+use Rattle.std.proofs.lemmas.List.{drop_more, drop_all, drop-drop, drop_at, get_or-drop}
 use Rattle.std.proofs.str.Laws.{order}
+use Rattle.std.specs.List.{prefix_len, between}
+use Rattle.std.specs.Option.{ok_or}
+use Rattle.std.proofs.lemmas.Slice.{between_to_end}
+use Rattle.std.proofs.lemmas.List.Sums.{prefix_len-le-length, prefix_len_stops}
+use Rattle.std.proofs.lemmas.List.Folds.{length-prefix_len}
 use Rattle.reader.specs.declared.types.Placed.{Placed}
 use Rattle.reader.specs.declared.types.Refusal.{Refusal}
 use Rattle.reader.specs.declared.types.Lexeme.{Lexeme}
@@ -11,9 +16,9 @@ use Rattle.reader.specs.declared.types.Token.{Token}
 use Rattle.reader.specs.declared.types.Token.TheVariants as token
 use Rattle.reader.specs.Refusals.{refusal_number}
 use Rattle.reader.specs.Symbols.{Symbol, stray, PlacedSymbol, placed, Flaw}
-use Rattle.reader.specs.Text.{Blank, Mark, mark_assign, mark_unequal, mark_plus, mark_minus, mark_semicolon, Means, AllAlnum, Stops, Reads, the_end, a_mark, a_run, a_stray}
-use Rattle.reader.specs.Lexing.{meant, Fine, WordTold, TokenTold, width, Run, Front, Stands, MarkTold, Between, Stray, TokenRead}
-use Rattle.reader.proofs.Lexing.{not_both}
+use Rattle.reader.specs.Text.{Blank, Mark, mark_assign, mark_unequal, mark_plus, mark_minus, mark_semicolon, Means, Reads, the_end, a_mark, a_run, a_stray}
+use Rattle.reader.specs.Lexing.{meant, Fine, WordTold, TokenTold, width, Sorted, Run, Front, Stands, MarkTold, is_blank, Between, Stray, TokenRead}
+use Rattle.reader.proofs.Lexing.{not_both, true_of, not_blank, blanks_read, run_first, run_begins, no_run}
 use Rattle.reader.proofs.Scanning.{scanned}
 
 -- the symbols from a place on, whatever stands there
@@ -23,42 +28,66 @@ some_reading p bs = scanned (length bs) p bs (omega arith)
 pub read_at_end : (text : List ℕ) (from place : ℕ) → Between text from place [] → length text ≤ place → Reads from (drop from text) []
 read_at_end text from place b h = b [] (subst (λ (l : List ℕ). Reads place l []) (sym (drop_all place text h)) the_end)
 
+-- how far the blanks from a place on go
+module _ (text : List ℕ) (from n : ℕ) (e : n ≡ prefix_len is_blank (drop from text)) where
+  pub skip_fits : (from + n ≤ length text) ⊎ (from + n ≡ from)
+  skip_fits =
+      let l = prefix_len-le-length is_blank (drop from text) in
+      let d = length-drop from text in
+      ⊎_elim (λ h. inl (omega arith)) (λ h. inr (omega arith)) (order from (length text))
+
+  pub skipped : Between text from (from + n) []
+  skipped zs r =
+      let k = prefix_len is_blank (drop from text) in
+      let t : drop (from + n) text ≡ drop k (drop from text) = sym (drop-drop k from text ∙ ap (λ m. drop (from + m) text) (sym e)) in
+      blanks_read (drop from text) from zs (subst (λ m. Reads (from + m) (drop k (drop from text)) zs) e (subst (λ l. Reads (from + n) l zs) t r))
+
+  pub skip_stops : from + n < length text → Blank (get_or text (from + n) 0) → ⊥
+  skip_stops h b =
+      let rest = drop from text in
+      let k = prefix_len is_blank rest in
+      let inside : k < length rest = simp length-drop (omega arith) in
+      let at : get_or rest k 0 ≡ get_or text (from + n) 0 = get_or-drop from text k 0 ∙ ap (λ m. get_or text (from + m) 0) (sym e) in
+      not_blank (prefix_len_stops is_blank rest 0 inside) (subst Blank (sym at) b)
+
+-- the text from a place on
 module _ (text : List ℕ) (place : ℕ) (inside : place < length text) where
   here : drop place text ≡ get_or text place 0 ∷ drop (place + 1) text
   here = drop_more text place 0 inside
 
-  -- the run that begins here
-  module _ (end : ℕ) (le : place ≤ end) (stops : Stops (drop end text)) (alnum : T (is_ascii_alphanumeric (get_or text place 0))) where
-    longer : place < end
-    longer = ⊎_elim (λ h. h) (λ h. absurd (go (omega arith))) (order place end)
-      where
-        go : end ≡ place → ⊥
-        go e = subst Stops (ap (λ n. drop n text) e ∙ here) stops alnum
+  whole : between place (length text) text ≡ drop place text
+  whole = between_to_end text place (length text) (omega arith)
 
-    pub run_here : AllAlnum (take (end - place) (drop place text)) → Run (drop place text) (take (end - place) (drop place text))
-    run_here a =
-        let l = longer in
-        let e : place + (end - place) ≡ end = omega arith in
-        record {
-          rest = drop end text;
-          split = sym (ap (λ l. take (end - place) (drop place text) ++ l) (sym (drop-drop (end - place) place text ∙ ap (λ n. drop n text) e)) ∙ take-append-drop (end - place) (drop place text));
-          alnum = a;
-          stops = stops;
-          some = simp (length-take, length-drop) (omega arith);
-        }
+  pub run_part : (n : ℕ) → n ≡ prefix_len is_ascii_alphanumeric (between place (length text) text) → 0 < n → Run (drop place text) (take n (between place (length text) text))
+  run_part n e h =
+      subst (λ l. Run (drop place text) (take n l)) (sym whole) (run_first (drop place text) n (e ∙ ap (prefix_len is_ascii_alphanumeric) whole) h)
 
-  second : get_or (drop (place + 1) text) 0 0 ≡ get_or text (place + 1) 0
-  second = get_or-drop (place + 1) text 0 0 ∙ ap (λ n. get_or text n 0) (add-zero (place + 1))
+  pub word_part : (n : ℕ) → T (is_ascii_alphanumeric (get_or text place 0)) → n ≡ prefix_len is_ascii_alphanumeric (between place (length text) text)
+      → Run (drop place text) (take n (between place (length text) text)) × (n ≡ length (take n (between place (length text) text)))
+  word_part n t e =
+      let some = run_begins (get_or text place 0) (drop (place + 1) text) (true_of _ t) in
+      let m : n ≡ prefix_len is_ascii_alphanumeric (get_or text place 0 ∷ drop (place + 1) text) = e ∙ ap (prefix_len is_ascii_alphanumeric) (whole ∙ here) in (
+        run_part n e (omega arith),
+        subst (λ k. k ≡ length (take k (between place (length text) text))) (sym e) (sym (length-prefix_len is_ascii_alphanumeric (between place (length text) text))),
+      )
 
-  pub mark_here : {c : ℕ} (t : Token) → c ≡ get_or text (place + 1) 0 → MarkTold (get_or text place 0) c (Some t) → Stands (drop place text) t
-  mark_here t e m = subst (λ (l : List ℕ). Stands l t) (sym here) (m.1 (drop (place + 1) text) (second ∙ sym e))
+  pub mark_found : (o : Option Token) (e : Placed Refusal) (t : Token) → MarkTold (between place (length text) text) o → Ok t ≡ ok_or o e → Stands (drop place text) t × Sorted t
+  mark_found None e t m k = let z : ◌≡◌ {A = ℕ} 0 1 = cc in absurd (omega arith)
+  mark_found (Some u) e t m k =
+      let same : u ≡ t = cc in
+      subst (λ (t : Token). Stands (drop place text) t × Sorted t) same (subst (λ l. Stands l u) whole m.1, m.0)
 
-  pub stray_here : {c from : ℕ} → Between text from place [] → (Blank (get_or text place 0) → ⊥) → is_ascii_alphanumeric (get_or text place 0) ≡ false → c ≡ get_or text (place + 1) 0 → MarkTold (get_or text place 0) c None → Stray text from place
-  stray_here b f g e m =
-      let rest = some_reading (suc place) (drop (place + 1) text) in (
+  pub mark_missed : (o : Option Token) (e f : Placed Refusal) → MarkTold (between place (length text) text) o → ◌≡◌ {A = Result Token (Placed Refusal)} (Err f) (ok_or o e) → MarkTold (drop place text) None × (f ≡ e)
+  mark_missed None e f m k = (subst (λ l. MarkTold l None) whole m, cc)
+  mark_missed (Some u) e f m k = let z : ◌≡◌ {A = ℕ} 0 1 = cc in absurd (omega arith)
+
+  pub stray_here : {from : ℕ} → Between text from place [] → (Blank (get_or text place 0) → ⊥) → 0 ≡ prefix_len is_ascii_alphanumeric (between place (length text) text) → MarkTold (drop place text) None → Stray text from place
+  stray_here b f z m =
+      let rest = some_reading (suc place) (drop (place + 1) text) in
+      let g = no_run (get_or text place 0) (drop (place + 1) text) (sym (z ∙ ap (prefix_len is_ascii_alphanumeric) (whole ∙ here))) in (
         rest.0,
         b (placed place stray ∷ rest.0) (subst (λ (l : List ℕ). Reads place l (placed place stray ∷ rest.0)) (sym here)
-            (a_stray f (λ h. not_both g h) (λ k r s mk q. m (drop (place + 1) text) k r s (second ∙ sym e) mk q) rest.1)),
+            (a_stray f (λ h. not_both g h) (λ k r s mk q. m k r s mk (here ∙ q)) rest.1)),
       )
 
 mark_fine : {m : List ℕ} {s : Symbol} → Mark m s → Fine s
@@ -86,16 +115,6 @@ module _ (text : List ℕ) (place : ℕ) where
   mark_read {s} m h f zs k =
       subst (λ (l : List ℕ). Reads place l (placed place s ∷ zs)) (sym f.1)
       (a_mark m f.0 h (subst (λ (l : List ℕ). Reads (place + length m) l zs) (rest_at text place m f.0 f.1) k))
-
-  -- a token lies in the text
-  pub token_inside : (t : Token) → Stands (drop place text) t → place + width t ≤ length text
-  token_inside (token.Word w) r = inside w.now r.rest r.some r.split
-  token_inside (token.Number w) r = inside w.now r.rest r.some r.split
-  token_inside token.Assign f = inside (codes ":=") f.0 (omega arith) f.1
-  token_inside token.Unequal f = inside (codes "!=") f.0 (omega arith) f.1
-  token_inside token.Plus f = inside (codes "+") f.0 (omega arith) f.1
-  token_inside token.Minus f = inside (codes "-") f.0 (omega arith) f.1
-  token_inside token.Semicolon f = inside (codes ";") f.0 (omega arith) f.1
 
   said : {l k : Lexeme} → ◌≡◌ {A = Result Lexeme Refusal} (Ok l) (Ok k) → l ≡ k
   said e = cc
@@ -142,7 +161,3 @@ told_placed place t (Err f) (Err e) h m =
 
 pub token_found : (text : List ℕ) (from : ℕ) (found : Option (Placed Token)) (t : Placed Token) → found ≡ Some t → TokenRead text from (Ok found) → TokenRead text from (Ok (Some t))
 token_found text from found t e r = subst (λ (f : Option (Placed Token)). TokenRead text from (Ok f)) e r
-
--- a part of the text has the bytes between its ends
-pub part_length : (text : List ℕ) (a e : ℕ) → a ≤ e → e ≤ length text → length (take (e - a) (drop a text)) ≡ e - a
-part_length text a e h k = simp (length-take, length-drop) (omega arith)

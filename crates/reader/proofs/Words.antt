@@ -1,24 +1,30 @@
 -- What words and marks say.
-use Rattle.std.proofs.Common.{◌≡◌, ℕ, ◌<◌, ◌≤◌, Bool, true, false, List, [], ◌∷◌, ◌++◌, length, get_or, drop, None, Ok, Err, codes, Result, nat_eq, sym, refl, ap, ◌∙◌, subst, arith}
+use Rattle.std.proofs.Common.{◌≡◌, ℕ, ◌<◌, ◌≤◌, Bool, true, false, List, [], ◌∷◌, length, get_or, drop, Some, None, Ok, Err, codes, Option, Result, nat_eq, sym, refl, ap, ◌∙◌, subst, arith}
 use Rattle.std.proofs.lemmas.Slice.Eq.{slice_eq-Decides}
 use Rattle.std.proofs.lemmas.Bool.Decides.{not_from_Decides, Decides-eqb}
 use Rattle.std.proofs.lemmas.Slice.{between_to_end}
 use Rattle.std.specs.List.{between}
+use Rattle.std.specs.Prelude.{MatchOption}
+use Rattle.std.specs.Option.{ok_or}
 use Rattle.std.specs.Cmp.Lexicographic.{pointwise}
 use Rattle.reader.specs.declared.types.Refusal.{Refusal}
 use Rattle.reader.specs.declared.types.Refusal.TheVariants.{StrangeWord, TooBig}
 use Rattle.reader.specs.declared.types.Lexeme.{Lexeme}
 use Rattle.reader.specs.declared.types.Lexeme.TheVariants as lexeme
 use Rattle.reader.specs.Symbols.{Symbol, number, register, strange, big_number, big_register, strange_word}
-use Rattle.reader.specs.Text.{Mark, mark_assign, mark_unequal, mark_plus, mark_minus, mark_semicolon, Numeral, just_zero, some_digits, value, Word, word_number, word_register, Means, a_word, no_word}
-use Rattle.reader.specs.Lexing.{NumberTold, small_number, large_number, no_number, RegisterTold, small_register, large_register, no_register, WordTold, digit_first, MarkTold}
+use Rattle.reader.specs.Text.{Numeral, just_zero, some_digits, value, Word, word_number, word_register, Means, a_word, no_word}
+use Rattle.reader.specs.Lexing.{NumberTold, small_number, large_number, no_number, RegisterTold, small_register, large_register, no_register, WordTold, digit_first}
 use Rattle.reader.proofs.Counts.{fine_number, fine_register}
 use Rattle.reader.proofs.Lexing.{truth, true_of, not_both}
 use Rattle.reader.proofs.Scanning.{is_no_word}
 
 -- numbers
-pub told_small : (w : List ℕ) (n : ℕ) → Numeral w → n ≡ value w → n ≤ 999999 → NumberTold w (Ok n)
+told_small : (w : List ℕ) (n : ℕ) → Numeral w → n ≡ value w → n ≤ 999999 → NumberTold w (Ok n)
 told_small w n a e h = subst (λ (k : ℕ). NumberTold w (Ok k)) (sym e) (small_number a (omega arith))
+
+pub told_number_or : (w : List ℕ) → Numeral w → (o : Option ℕ) → MatchOption o (999999 < value w) (λ n. (n ≡ value w) × (n ≤ 999999)) → (r : Result ℕ Refusal) → r ≡ ok_or o TooBig → NumberTold w r
+told_number_or w a None h r e = subst (NumberTold w) (sym e) (large_number a h)
+told_number_or w a (Some n) h r e = subst (NumberTold w) (sym e) (told_small w n a h.0 h.1)
 
 numeral_digit : {w : List ℕ} → Numeral w → digit_first w ≡ true
 numeral_digit just_zero = refl
@@ -87,24 +93,3 @@ pub told_no_number : {w : List ℕ} {f : Refusal} → digit_first w ≡ true →
 told_no_number {w} d (large_number a h) = (number (value w), a_word (word_number a), big_number h)
 told_no_number d (no_number f) =
     (strange, no_word (λ s v. is_no_word (digit_not d refl) (digit_not d refl) (digit_not d refl) (digit_not d refl) f (λ x. digit_not d refl x.1) v), strange_word)
-
--- marks
-pub two_bytes : (b c x y : ℕ) → b ≡ x → c ≡ y → 0 < y → (bs : List ℕ) → get_or bs 0 0 ≡ c → (rest : List ℕ) × (b ∷ bs ≡ x ∷ y ∷ rest)
-two_bytes b c x y e f h [] g = absurd (omega arith)
-two_bytes b c x y e f h (d ∷ bs) g = (bs, λ i. e i ∷ (g ∙ f) i ∷ bs)
-
-pub no_mark : (b c : ℕ) → (b ≡ 59 → ⊥) → (b ≡ 43 → ⊥) → (b ≡ 45 → ⊥) → (b ≡ 58 → c ≡ 61 → ⊥) → (b ≡ 33 → c ≡ 61 → ⊥) → MarkTold b c None
-no_mark b c f g h i j bs m rest s e k l = go k l
-  where
-    first : {x : ℕ} {xs : List ℕ} → b ∷ bs ≡ x ∷ xs → b ≡ x
-    first l = cc
-
-    second : {x y : ℕ} {xs : List ℕ} → b ∷ bs ≡ x ∷ y ∷ xs → c ≡ y
-    second {x} {y} {xs} l = let p : bs ≡ y ∷ xs = cc in sym e ∙ ap (λ (l : List ℕ). get_or l 0 0) p
-
-    go : {m : List ℕ} {s : Symbol} → Mark m s → b ∷ bs ≡ m ++ rest → ⊥
-    go mark_assign l = i (first l) (second l)
-    go mark_unequal l = j (first l) (second l)
-    go mark_plus l = g (first l)
-    go mark_minus l = h (first l)
-    go mark_semicolon l = f (first l)

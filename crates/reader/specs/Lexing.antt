@@ -1,5 +1,5 @@
 -- What the lexer's functions tell of a text, in the words of Text.antt.
-use Rattle.std.specs.Prelude.{◌≡◌, ℕ, ◌<◌, ◌≤◌, Bool, true, false, List, [], ◌∷◌, ◌++◌, length, drop, Some, None, Ok, Err, codes, Option, Result, ◌≢◌, slice_index}
+use Rattle.std.specs.Prelude.{◌≡◌, ℕ, ◌<◌, ◌≤◌, Bool, true, false, List, [], ◌∷◌, ◌++◌, length, drop, Some, None, Ok, Err, codes, Option, Result, ◌≢◌, slice_index, ◌==◌, ◌||◌}
 use Rattle.std.specs.Char.{is_ascii_digit}
 use Rattle.reader.specs.declared.types.Placed.{Placed}
 use Rattle.reader.specs.declared.types.Refusal.{Refusal}
@@ -103,10 +103,14 @@ Stands bs token.Plus = Front (codes "+") bs
 Stands bs token.Minus = Front (codes "-") bs
 Stands bs token.Semicolon = Front (codes ";") bs
 
--- the mark that begins with the byte b, where c stands behind it, or that none does
-abbrev pub MarkTold : ℕ → ℕ → Option Token → Type 0
-MarkTold b c (Some t) = Sorted t × ((bs : List ℕ) → slice_index bs 0 ≡ c → Stands (b ∷ bs) t)
-MarkTold b c None = (bs m rest : List ℕ) (s : Symbol) → slice_index bs 0 ≡ c → Mark m s → b ∷ bs ≢ m ++ rest
+-- the mark that stands at the front of bs, or that none does
+abbrev pub MarkTold : List ℕ → Option Token → Type 0
+MarkTold bs (Some t) = Sorted t × Stands bs t
+MarkTold bs None = (m rest : List ℕ) (s : Symbol) → Mark m s → bs ≢ m ++ rest
+
+-- whether the byte is a blank
+abbrev pub is_blank : ℕ → Bool
+is_blank b = b == 32 || b == 10
 
 -- what is read from `to` on is read from `from` on, behind the symbols us
 abbrev pub Between : List ℕ → ℕ → ℕ → List PlacedSymbol → Type 0

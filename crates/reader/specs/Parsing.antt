@@ -1,6 +1,6 @@
 -- What the parser's functions tell of a part of the text: the symbols that they passed, the sheet that these spell, and the
 -- records filed for it; or what is refused.
-use Rattle.std.specs.Prelude.{◌≡◌, ℕ, suc, ◌+◌, ◌<◌, ◌≤◌, List, [], ◌∷◌, ◌++◌, length, drop, Some, None, Ok, Err, Option, Result, ◌≢◌}
+use Rattle.std.specs.Prelude.{◌≡◌, ℕ, suc, ◌+◌, ◌<◌, ◌≤◌, List, [], ◌∷◌, ◌++◌, length, drop, Some, None, Ok, Err, Option, Result, ◌≢◌, slice_set}
 use Rattle.reader.specs.declared.types.Placed.{Placed}
 use Rattle.reader.specs.declared.types.Refusal.{Refusal}
 use Rattle.reader.specs.declared.types.Refusal.TheVariants.{TooDeep, TooMany, TreeFull}
@@ -10,6 +10,9 @@ use Rattle.reader.specs.declared.types.Lexeme.{Lexeme}
 use Rattle.reader.specs.declared.types.Lexeme.TheVariants as lexeme
 use Rattle.reader.specs.declared.types.Statement.{Statement}
 use Rattle.reader.specs.declared.parser.Parser.{Parser}
+use Rattle.reader.specs.declared.level.Level.{Level}
+use Rattle.reader.specs.declared.parser.BlockKind.{BlockKind}
+use Rattle.reader.specs.declared.parser.BlockKind.TheVariants as block
 use Rattle.reader.specs.Sheet.{Sheet, size}
 use Rattle.reader.specs.Symbols.{Symbol, LOOP, WHILE, DO, number, register, unequal, PlacedSymbol, placed, symbols, heads}
 use Rattle.reader.specs.Grammar.{Spells}
@@ -78,8 +81,10 @@ pub data Opening : Kind → Symbol → Expect → Type 0 where
   opening_loop : Opening kind.Loop LOOP loop_register
   opening_while : Opening kind.While WHILE while_register
 
-abbrev pub Block : Kind → Type 0
-Block k = (s : Symbol) × (x : Expect) × Opening k s x
+-- the kind of a block's record
+abbrev pub kind_of : BlockKind → Kind
+kind_of block.Loop = kind.Loop
+kind_of block.While = kind.While
 
 -- whether a LOOP or WHILE at that level may begin, where n statements and m LOOPs have begun, or which limit it would pass;
 -- then m' LOOPs have begun
@@ -90,6 +95,11 @@ pub data Admitted (level n m : ℕ) : Kind → Option Refusal → ℕ → Type 0
   too_many : {k : Kind} → level < 8 → n ≡ 256 → Admitted level n m k (Some TooMany) m
   too_many_loops : level < 8 → n < 256 → m ≡ 32 → Admitted level n m kind.Loop (Some TooMany) m
 
+-- the same of a LOOP or WHILE at that place, and which level is inside it
+abbrev pub Admits : ℕ → ℕ → ℕ → Kind → ℕ → Result Level (Placed Refusal) → ℕ → Type 0
+Admits level n m k place (Ok inner) m' = Admitted level n m k None m' × (inner.depth ≡ level + 1)
+Admits level n m k place (Err e) m' = Admitted level n m k (Some e.item) m' × (e.place ≡ place)
+
 -- the symbols of a head behind its word
 pub data Head : Kind → ℕ → List PlacedSymbol → Type 0 where
   head_loop : {p₂ p₃ i : ℕ} → Head kind.Loop i (placed p₂ (register i) ∷ placed p₃ DO ∷ [])
@@ -98,6 +108,30 @@ pub data Head : Kind → ℕ → List PlacedSymbol → Type 0 where
 abbrev pub HeadRead : Expect → Kind → List ℕ → ℕ → Result ℕ (Placed Refusal) → ℕ → Type 0
 HeadRead x k text from (Ok i) to = (hs : List PlacedSymbol) × Between text from to hs × Head k i hs × (i ≤ 31)
 HeadRead x k text from (Err e) to = Halts text from x e
+
+-- a LOOP or WHILE at that place and level is counted, or the limit that it would pass is told
+pub record BlockAdmitted (level : ℕ) (k : Kind) (place : ℕ) (a : Parser) (r : Result Level (Placed Refusal)) (z : Parser) : Type 0 where
+  pub admitted : Admits level a.counts.statements a.counts.loops k place r z.counts.loops
+  pub begun : z.counts.statements ≡ a.counts.statements
+  pub memory : memory_of z ≡ memory_of a
+  pub kept : Kept a z
+  pub pos : pos_of z ≡ pos_of a
+
+-- the head of a LOOP or WHILE is read
+pub record BlockHeadRead (k : Kind) (a : Parser) (r : Result ℕ (Placed Refusal)) (z : Parser) : Type 0 where
+  pub read : (s : Symbol) (x : Expect) → Opening k s x → HeadRead x k (text_of a) (pos_of a) r (pos_of z)
+  pub begun : (z.counts.statements ≡ a.counts.statements) × (z.counts.loops ≡ a.counts.loops)
+  pub memory : memory_of z ≡ memory_of a
+  pub kept : Kept a z
+
+-- the record of one statement more is filed
+pub record RecordFiled (x : Placed Statement) (a : Parser) (i : ℕ) (z : Parser) : Type 0 where
+  pub index : i ≡ a.counts.statements
+  pub begun : z.counts.statements ≡ suc a.counts.statements
+  pub loops : z.counts.loops ≡ a.counts.loops
+  pub filed : memory_of z ≡ slice_set (memory_of a) a.counts.statements x
+  pub kept : Kept a z
+  pub pos : pos_of z ≡ pos_of a
 
 -- why a sheet is refused: a first fault, or too little memory
 pub data SheetRefused (room : ℕ) (text : List ℕ) : Placed Refusal → Type 0 where

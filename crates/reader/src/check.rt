@@ -1,17 +1,16 @@
-ghost use Rattle.std.specs.Prelude.{◌≡◌, ◌<◌, ◌≤◌, length, Decides};
+ghost use Rattle.std.specs.Prelude.{◌≡◌, ℕ, ◌<◌, Decides};
 ghost use Rattle.reader.specs.Checks.{IsSheet, sibling, Assigned, Headed, Body, IsStatement, loops_in};
 
+use crate::level::Level;
+use crate::limits::{LOOPS, STATEMENTS};
 use crate::types::{Kind, Placed, Statement};
 
 // The index of the next statement of the same body, which ends before `body_end`; none after the last one.
 pub fn next_sibling(records: &[Placed<Statement>], index: usize, body_end: usize) -> Option<usize>
     ensures answer { result ≡ sibling records.now index body_end }
 {
-    if index >= records.len() {
-        return None;
-    }
-    let end = records[index].item.end;
-    if end < body_end { Some(end) } else { None }
+    let end = records.get(index)?.item.end;
+    (end < body_end).then_some(end)
 }
 
 // Whether the record is that of an assignment, behind which comes the index `next`.
@@ -21,42 +20,38 @@ fn is_assignment(s: Statement, next: usize) -> bool
     s.end == next && s.target <= 31 && s.source <= 31 && s.constant <= 999_999
 }
 
-// Whether the record is the head of a LOOP or WHILE whose body begins at `next`, in a body that ends
-// before `to`, inside that many levels.
-fn is_head(s: Statement, next: usize, to: usize, level: usize) -> bool
-    ensures { Decides result (Headed s next to level) }
+// Whether the record is the head of a LOOP or WHILE whose body begins at `next`, in a body that ends before `to`.
+fn is_head(s: Statement, next: usize, to: usize) -> bool
+    ensures { (level : ℕ) → level < 8 → Decides result (Headed s next to level) }
 {
-    s.target == 0 && s.source <= 31 && s.constant == 0 && next < s.end && s.end <= to && level < 8
+    s.target == 0 && s.source <= 31 && s.constant == 0 && next < s.end && s.end <= to
 }
 
-// Whether record `index`, with those of its body, is a statement inside that many levels, in a body that ends before `to`.
+// Whether record `index`, with those of its body, is a statement at that level, in a body that ends before `to`.
 #[cycle(is_body_is_statement)]
-fn is_statement(records: &[Placed<Statement>], index: usize, to: usize, level: usize) -> bool
-    requires order { index < to }
-    requires within { to ≤ length records.now }
-    requires shallow { level ≤ 8 }
-    ensures { Decides result (IsStatement records.now index to level) }
+fn is_statement(records: &[Placed<Statement>], index: usize, to: usize, level: Level) -> bool
+    ensures { Decides result (IsStatement records.now index to level.depth) }
 {
-    let s = records[index].item;
+    let Some(record) = records.get(index) else {
+        return false;
+    };
+    let s = record.item;
     match s.kind {
         Kind::Zero => false,
         Kind::Plus | Kind::Minus => is_assignment(s, index + 1),
         Kind::Loop | Kind::While => {
-            if !is_head(s, index + 1, to, level) {
+            let Some(inner) = level.inner() else {
                 return false;
-            }
-            is_body(records, index + 1, s.end, level + 1)
+            };
+            is_head(s, index + 1, to) && is_body(records, index + 1, s.end, inner)
         }
     }
 }
 
-// Whether the records from `from` up to `to` are those of statements inside that many levels.
+// Whether the records from `from` up to `to` are those of statements at that level.
 #[cycle(is_body_is_statement)]
-fn is_body(records: &[Placed<Statement>], from: usize, to: usize, level: usize) -> bool
-    requires order { from ≤ to }
-    requires within { to ≤ length records.now }
-    requires shallow { level ≤ 8 }
-    ensures { Decides result (Body records.now from to level) }
+fn is_body(records: &[Placed<Statement>], from: usize, to: usize, level: Level) -> bool
+    ensures { Decides result (Body records.now from to level.depth) }
 {
     let mut index = from;
     while index < to {
@@ -65,7 +60,7 @@ fn is_body(records: &[Placed<Statement>], from: usize, to: usize, level: usize) 
         }
         index = records[index].item.end;
     }
-    true
+    index == to
 }
 
 // How many of the records are LOOPs.
@@ -79,11 +74,11 @@ pub fn loop_count(records: &[Placed<Statement>]) -> usize
 pub fn is_sheet(records: &[Placed<Statement>]) -> bool
     ensures { Decides result (IsSheet records.now) }
 {
-    if records.len() == 0 || records.len() > 256 {
+    if records.len() == 0 || records.len() > STATEMENTS {
         return false;
     }
-    if loop_count(records) > 32 {
+    if loop_count(records) > LOOPS {
         return false;
     }
-    is_body(records, 0, records.len(), 0)
+    is_body(records, 0, records.len(), Level::outermost())
 }

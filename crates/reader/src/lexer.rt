@@ -1,63 +1,44 @@
-ghost use Rattle.std.specs.Prelude.{◌≡◌, ℕ, ◌+◌, ◌-◌, ◌<◌, ◌≤◌, true, false, T, List, [], length, drop, Decides, MatchOption, slice_index, slice_range};
+ghost use Rattle.std.specs.Prelude.{◌≡◌, ℕ, ◌<◌, ◌≤◌, true, false, List, drop, Decides, MatchOption};
+ghost use Rattle.std.specs.List.{prefix_len};
 ghost use Rattle.std.specs.Char.{is_ascii_alphanumeric};
 ghost use Rattle.std.specs.Str.{all_ascii_digits};
-ghost use Rattle.reader.specs.Text.{Blank, Numeral, value as written, AllAlnum, Stops};
-ghost use Rattle.reader.specs.Lexing.{NumberTold, RegisterTold, WordTold, TokenTold, width as width_of, digit_first, Sorted, Run, Stands, MarkTold, Between, TokenRead};
+ghost use Rattle.reader.specs.Text.{Numeral, value as written};
+ghost use Rattle.reader.specs.Lexing.{NumberTold, RegisterTold, WordTold, TokenTold, width as width_of, digit_first, Sorted, Run, Stands, MarkTold, is_blank, TokenRead};
 
 use crate::types::{Lexeme, Placed, Refusal, Token};
 
-fn is_blank(b: u8) -> bool
-    ensures { Decides result (Blank b) }
+// How many blanks stand first.
+fn blanks(text: &[u8]) -> usize
+    ensures { result ≡ prefix_len is_blank text.now }
 {
-    b == b' ' || b == b'\n'
+    text.iter()
+        .take_while(|b| **b == b' ' || **b == b'\n')
+        .count()
 }
 
-// The place of the first byte from `from` on that is no blank, or the text's end.
-fn skip_blanks(text: &[u8], from: usize) -> usize
-    ensures skipped { Between text.now from result [] }
-    ensures stops { result < length text.now → Blank (slice_index text.now result) → ⊥ }
+// How many letters and digits stand first.
+pub(crate) fn word_length(text: &[u8]) -> usize
+    ensures { result ≡ prefix_len is_ascii_alphanumeric text.now }
 {
-    let mut at = from;
-    while at < text.len() && is_blank(text[at]) {
-        at += 1;
-    }
-    at
-}
-
-// The place of the first byte from `from` on that is neither a letter nor a digit, or the text's end.
-pub(crate) fn word_end(text: &[u8], from: usize) -> usize
-    ensures within { (from ≤ result) × ((from ≤ length text.now → result ≤ length text.now)) }
-    ensures alnum { AllAlnum (slice_range text.now from result) }
-    ensures stops { Stops (drop result text.now) }
-{
-    let mut at = from;
-    while at < text.len() && text[at].is_ascii_alphanumeric() {
-        at += 1;
-    }
-    at
+    text.iter()
+        .take_while(|b| b.is_ascii_alphanumeric())
+        .count()
 }
 
 fn all_digits(word: &[u8]) -> bool
     ensures { result ≡ all_ascii_digits word.now }
 {
-    for d in word {
-        if !d.is_ascii_digit() {
-            return false;
-        }
-    }
-    true
+    word.iter().all(|d| d.is_ascii_digit())
 }
 
 // Whether the word is 0, or a digit 1 to 9 followed by any digits.
 fn is_numeral(word: &[u8]) -> bool
     ensures { Decides result (Numeral word.now) }
 {
-    if word.is_empty() {
-        false
-    } else if word[0] == b'0' {
-        word.len() == 1
-    } else {
-        all_digits(word)
+    match word {
+        [] => false,
+        [b'0', rest @ ..] => rest.is_empty(),
+        _ => all_digits(word),
     }
 }
 
@@ -83,35 +64,26 @@ fn number(word: &[u8]) -> Result<u32, Refusal>
     if !is_numeral(word) {
         return Err(Refusal::StrangeWord);
     }
-    match value(word) {
-        Some(n) => Ok(n),
-        None => Err(Refusal::TooBig),
-    }
+    value(word).ok_or(Refusal::TooBig)
 }
 
 // The register that the word names: an `x` and a number.
 fn register(word: &[u8]) -> Result<Lexeme, Refusal>
     ensures { RegisterTold word.now result }
 {
-    if word.is_empty() {
+    let [b'x', digits @ ..] = word else {
         return Err(Refusal::StrangeWord);
-    }
-    if word[0] != b'x' {
-        return Err(Refusal::StrangeWord);
-    }
-    match number(&word[1..]) {
-        Ok(i) => {
-            if i <= 31 {
-                Ok(Lexeme::Register(i as usize))
-            } else {
-                Err(Refusal::TooBig)
-            }
-        }
-        Err(refusal) => Err(refusal),
+    };
+    let i = number(digits)?;
+    if i <= 31 {
+        // `usize::from` takes no `u32`.
+        Ok(Lexeme::Register(i as usize))
+    } else {
+        Err(Refusal::TooBig)
     }
 }
 
-// What a word says that does not begin with a digit.
+// What a word says that does not begin with a digit. A `match` on the words would leave sixteen ways into its last arm to prove.
 fn word_lexeme(word: &[u8]) -> Result<Lexeme, Refusal>
     requires { digit_first word.now ≡ false }
     ensures { WordTold word.now result }
@@ -134,10 +106,8 @@ fn number_lexeme(word: &[u8]) -> Result<Lexeme, Refusal>
     requires { digit_first word.now ≡ true }
     ensures { WordTold word.now result }
 {
-    match number(word) {
-        Ok(n) => Ok(Lexeme::Number(n)),
-        Err(refusal) => Err(refusal),
-    }
+    let n = number(word)?;
+    Ok(Lexeme::Number(n))
 }
 
 // What a token says.
@@ -167,33 +137,18 @@ pub(crate) fn width(token: Token) -> usize
     }
 }
 
-// The mark that begins with `first`, where `second` stands behind it.
-fn mark(first: u8, second: u8) -> Option<Token<'static>>
-    ensures { MarkTold first second result }
+// The mark that stands first.
+fn mark(text: &[u8]) -> Option<Token<'static>>
+    ensures { MarkTold text.now result }
 {
-    match char::from(first) {
-        ';' => Some(Token::Semicolon),
-        '+' => Some(Token::Plus),
-        '-' => Some(Token::Minus),
-        ':' => if second == b'=' {
-            Some(Token::Assign)
-        } else {
-            None
-        },
-        '!' => if second == b'=' {
-            Some(Token::Unequal)
-        } else {
-            None
-        },
+    match text {
+        [b';', ..] => Some(Token::Semicolon),
+        [b'+', ..] => Some(Token::Plus),
+        [b'-', ..] => Some(Token::Minus),
+        [b':', b'=', ..] => Some(Token::Assign),
+        [b'!', b'=', ..] => Some(Token::Unequal),
         _ => None,
     }
-}
-
-// The byte at `at`, or 0 past the end.
-fn byte_at(text: &[u8], at: usize) -> u8
-    ensures { result ≡ slice_index text.now at }
-{
-    if at < text.len() { text[at] } else { 0 }
 }
 
 // The token of a word, which is a number where it begins with a digit.
@@ -201,11 +156,17 @@ fn word_token<'a>(word: &'a [u8]) -> Token<'a>
     ensures sorted { Sorted result }
     ensures stands { (bs : List ℕ) → Run bs word.now → Stands bs result }
 {
-    if byte_at(word, 0).is_ascii_digit() {
-        Token::Number(word)
-    } else {
-        Token::Word(word)
+    match word {
+        [b'0'..=b'9', ..] => Token::Number(word),
+        _ => Token::Word(word),
     }
+}
+
+// What stands from `from` on; nothing past the end.
+fn tail(text: &[u8], from: usize) -> &[u8]
+    ensures { result.now ≡ drop from text.now }
+{
+    text.get(from..).unwrap_or(&[])
 }
 
 // The first token from `from` on; none at the text's end.
@@ -215,23 +176,19 @@ pub(crate) fn next_token<'a>(
 ) -> Result<Option<Placed<Token<'a>>>, Placed<Refusal>>
     ensures { TokenRead text.now from result }
 {
-    let place = skip_blanks(text, from);
+    let place = from + blanks(tail(text, from));
     if place >= text.len() {
         return Ok(None);
     }
-    let first = text[place];
-    if first.is_ascii_alphanumeric() {
-        let end = word_end(text, place);
-        return Ok(Some(Placed {
-            place,
-            item: word_token(&text[place..end]),
-        }));
+    let rest = &text[place..];
+    let length = word_length(rest);
+    if length > 0 {
+        let item = word_token(&rest[..length]);
+        return Ok(Some(Placed { place, item }));
     }
-    match mark(first, byte_at(text, place + 1)) {
-        Some(item) => Ok(Some(Placed { place, item })),
-        None => Err(Placed {
-            place,
-            item: Refusal::StrayByte,
-        }),
-    }
+    let item = mark(rest).ok_or(Placed {
+        place,
+        item: Refusal::StrayByte,
+    })?;
+    Ok(Some(Placed { place, item }))
 }

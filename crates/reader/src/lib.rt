@@ -4,8 +4,10 @@
 mod check;
 mod cursor;
 pub mod laws;
+mod level;
 mod lexeme;
 mod lexer;
+mod limits;
 mod parser;
 mod printer;
 mod reading;

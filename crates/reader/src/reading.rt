@@ -1,4 +1,4 @@
-ghost use Rattle.std.specs.Prelude.{◌≡◌, length};
+ghost use Rattle.std.specs.Prelude.{length};
 ghost use Rattle.reader.specs.Parsing.{SheetRead};
 ghost use Rattle.reader.specs.Reading.{ReadAnswers};
 
@@ -20,24 +20,16 @@ pub fn read(text: &[u8], records: &mut [Placed<Statement>]) -> Result<usize, Pla
             item: Refusal::Overlong,
         });
     }
-    let room = records.len();
-    let answer = parse(text, records, room);
-    match answer {
-        Ok(statements) => clear_from(records, statements),
-        Err(_) => clear_from(records, 0),
-    }
+    let answer = parse(text, records);
+    clear_from(records, answer.unwrap_or(0));
     answer
 }
 
-// Parses the text, where there is memory for `room` records.
-fn parse(
-    text: &[u8],
-    records: &mut [Placed<Statement>],
-    room: usize,
-) -> Result<usize, Placed<Refusal>>
-    requires { room ≡ length records.old }
-    ensures { SheetRead room text.now records.old result records.new }
+// Parses the text, as far as there is memory for its records.
+fn parse(text: &[u8], records: &mut [Placed<Statement>]) -> Result<usize, Placed<Refusal>>
+    ensures { SheetRead (length records.old) text.now records.old result records.new }
 {
+    let room = records.len();
     let mut parser = Parser::new(text, records);
     parser.sheet(room)
 }

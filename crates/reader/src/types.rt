@@ -45,7 +45,8 @@ pub enum Token<'a> {
     Semicolon,
 }
 
-// A word of the text: its part of the text, and where that part lies. An empty one has length 0.
+// A word of the text: its part of the text, and where that part lies. An empty one has length 0. The length is that of the
+// part, and stands beside it for callers that read it.
 #[derive(Clone, Copy, Debug)]
 pub struct Word<'a> {
     pub start: usize,

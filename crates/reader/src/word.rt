@@ -1,23 +1,22 @@
-ghost use Rattle.std.specs.Prelude.{Decides};
+ghost use Rattle.std.specs.Prelude.{◌≡◌, Decides, slice_index};
+ghost use Rattle.std.specs.Char.{is_ascii_alphanumeric};
 ghost use Rattle.reader.specs.Words.{WordBegins, WordFound};
 
-use crate::lexer::word_end;
+use crate::lexer::word_length;
 use crate::types::Word;
+
+// Whether a letter or digit stands at the place.
+fn stands_alnum(text: &[u8], place: usize) -> bool
+    ensures { result ≡ is_ascii_alphanumeric (slice_index text.now place) }
+{
+    text.get(place).is_some_and(|b| b.is_ascii_alphanumeric())
+}
 
 // Whether a word begins at the place: a letter or digit stands there, and none before it.
 fn begins_word(text: &[u8], place: usize) -> bool
     ensures { Decides result (WordBegins text.now place) }
 {
-    if place >= text.len() {
-        return false;
-    }
-    if !text[place].is_ascii_alphanumeric() {
-        return false;
-    }
-    if place == 0 {
-        return true;
-    }
-    !text[place - 1].is_ascii_alphanumeric()
+    stands_alnum(text, place) && (place == 0 || !stands_alnum(text, place - 1))
 }
 
 // The word that begins at the place, as a part of the text; an empty one where none begins. Any place will do.
@@ -25,17 +24,18 @@ pub fn word_at<'a>(text: &'a [u8], place: usize) -> Word<'a>
     ensures { WordFound text.now place result }
 {
     if begins_word(text, place) {
-        let end = word_end(text, place);
+        let rest = &text[place..];
+        let length = word_length(rest);
         return Word {
             start: place,
-            length: end - place,
-            bytes: &text[place..end],
+            length,
+            bytes: &rest[..length],
         };
     }
     let start = place.min(text.len());
     Word {
         start,
         length: 0,
-        bytes: &text[start..start],
+        bytes: &[],
     }
 }

@@ -6,14 +6,14 @@ use Rattle.reader.specs.Expecting.{Refuses, Passes}
 use Rattle.reader.proofs.Halting.{moved, head_refused, no_while_register, no_unequal, no_zero, no_while_do, behind_while_register, behind_unequal, behind-zero}
 use Rattle.reader.proofs.cursor.Cursor.while_head.Goals as goal
 
-pub returns-in_err-source : goal.returns-in_err-source
-returns-in_err-source c =
+pub returns-in_err-source-clause-read : goal.returns-in_err-source-clause-read
+returns-in_err-source-clause-read c =
     let p = err_from_is_err_and c.from_residual.result c.from_residual.ensures.1 in
     let a = c.in_err-source.ensures in
-    rw (p.1, p.2) (record { read = no_while_register c.args.self.now.text.now c.args.self.now.pos c.in_err-source.field-0.0 a.read; text = a.text })
+    rw (p.1, p.2) (no_while_register c.args.self.now.text.now c.args.self.now.pos c.in_err-source.field-0.0 a.read)
 
-pub returns-in_err-expect : goal.returns-in_err-expect
-returns-in_err-expect c =
+pub returns-in_err-expect-clause-read : goal.returns-in_err-expect-clause-read
+returns-in_err-expect-clause-read c =
     let p = err_from_is_err_and c.from_residual-in_err-expect.result c.from_residual-in_err-expect.ensures.1 in
     let text = c.args.self.now.text.now in
     let from = c.args.self.now.pos in
@@ -22,13 +22,10 @@ returns-in_err-expect c =
     let e = c.in_err-expect.field-0.0 in
     let a = c.in_ok-source.ensures in
     let b = c.in_err-expect.ensures in
-    rw (p.1, p.2) (record {
-      read = head_refused while_register while_unequal unequal text c.expect_register.new.self.text.now from mid i e (behind_while_register text from mid e i) (no_unequal text mid e) a.read a.text b.read;
-      text = ◌∙◌ {a = c.expect.new.self.text.now} b.text a.text;
-    })
+    rw (p.1, p.2) (head_refused while_register while_unequal unequal text c.expect_register.new.self.text.now from mid i e (behind_while_register text from mid e i) (no_unequal text mid e) a.read a.text b.read)
 
-pub returns-in_err-expect-2 : goal.returns-in_err-expect-2
-returns-in_err-expect-2 c =
+pub returns-in_err-expect-2-clause-read : goal.returns-in_err-expect-2-clause-read
+returns-in_err-expect-2-clause-read c =
     let p = err_from_is_err_and c.from_residual-in_err-expect-2.result c.from_residual-in_err-expect-2.ensures.1 in
     let text = c.args.self.now.text.now in
     let e = c.in_err-expect-2.field-0.0 in
@@ -38,15 +35,12 @@ returns-in_err-expect-2 c =
     let at1 = c.expect_register.new.self.pos in
     let at2 = c.expect.new.self.pos in
     let b-text : c.expect.new.self.text.now ≡ text = ◌∙◌ {a = c.expect.new.self.text.now} b.text a.text in
-    rw (p.1, p.2) (record {
-      read = behind_while_register text c.args.self.now.pos at1 e c.in_ok-source.source a.read
-          (behind_unequal text at1 at2 e (moved (λ t. Passes t at1 at2 unequal) a.text b.read.0)
-          (no_zero text at2 e (moved (λ t. Refuses (λ s. s ≡ number 0) t at2 e) b-text d.read)));
-      text = ◌∙◌ {a = c.expect-2.new.self.text.now} d.text b-text;
-    })
+    rw (p.1, p.2) (behind_while_register text c.args.self.now.pos at1 e c.in_ok-source.source a.read
+    (behind_unequal text at1 at2 e (moved (λ t. Passes t at1 at2 unequal) a.text b.read.0)
+    (no_zero text at2 e (moved (λ t. Refuses (λ s. s ≡ number 0) t at2 e) b-text d.read))))
 
-pub returns-in_err-expect-3 : goal.returns-in_err-expect-3
-returns-in_err-expect-3 c =
+pub returns-in_err-expect-3-clause-read : goal.returns-in_err-expect-3-clause-read
+returns-in_err-expect-3-clause-read c =
     let p = err_from_is_err_and c.from_residual-in_err-expect-3.result c.from_residual-in_err-expect-3.ensures.1 in
     let text = c.args.self.now.text.now in
     let e = c.in_err-expect-3.field-0.0 in
@@ -59,16 +53,13 @@ returns-in_err-expect-3 c =
     let at3 = c.expect-2.new.self.pos in
     let b-text : c.expect.new.self.text.now ≡ text = ◌∙◌ {a = c.expect.new.self.text.now} b.text a.text in
     let d-text : c.expect-2.new.self.text.now ≡ text = ◌∙◌ {a = c.expect-2.new.self.text.now} d.text b-text in
-    rw (p.1, p.2) (record {
-      read = behind_while_register text c.args.self.now.pos at1 e c.in_ok-source.source a.read
-          (behind_unequal text at1 at2 e (moved (λ t. Passes t at1 at2 unequal) a.text b.read.0)
-          (behind-zero text at2 at3 e (moved (λ t. Passes t at2 at3 (number 0)) b-text d.read.0)
-          (no_while_do text at3 e (moved (λ t. Refuses (λ s. s ≡ DO) t at3 e) d-text f.read))));
-      text = ◌∙◌ {a = c.expect-3.new.self.text.now} f.text d-text;
-    })
+    rw (p.1, p.2) (behind_while_register text c.args.self.now.pos at1 e c.in_ok-source.source a.read
+    (behind_unequal text at1 at2 e (moved (λ t. Passes t at1 at2 unequal) a.text b.read.0)
+    (behind-zero text at2 at3 e (moved (λ t. Passes t at2 at3 (number 0)) b-text d.read.0)
+    (no_while_do text at3 e (moved (λ t. Refuses (λ s. s ≡ DO) t at3 e) d-text f.read)))))
 
-pub returns : goal.returns
-returns c =
+pub returns-clause-read : goal.returns-clause-read
+returns-clause-read c =
     let text = c.args.self.now.text.now in
     let a = c.in_ok-source.ensures in
     let b = c.in_ok-expect.ensures in
@@ -83,7 +74,4 @@ returns c =
     let b-read = moved (λ t. Passes t at1 at2 unequal) a.text b.read.0 in
     let d-read = moved (λ t. Passes t at2 at3 (number 0)) b-text d.read.0 in
     let f-read = moved (λ t. Passes t at3 at4 DO) d-text f.read.0 in
-    record {
-      read = (a.read.0.0, b-read.0, d-read.0, f-read.0, (λ zs r. a.read.0.1 _ (b-read.1 _ (d-read.1 _ (f-read.1 zs r)))), a.read.1);
-      text = ◌∙◌ {a = c.expect-3.new.self.text.now} f.text d-text;
-    }
+    (a.read.0.0, b-read.0, d-read.0, f-read.0, (λ zs r. a.read.0.1 _ (b-read.1 _ (d-read.1 _ (f-read.1 zs r)))), a.read.1)

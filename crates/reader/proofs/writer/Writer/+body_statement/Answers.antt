@@ -1,13 +1,13 @@
-use Rattle.std.proofs.Common.{◌<◌, ◌≤◌, sym, refl, ◌∙◌, inl, inr, arith, rules}
+use Rattle.std.proofs.Common.{◌<◌, ◌≤◌, sym, refl, ◌∙◌, arith, rules}
 use Rattle.reader.specs.Pages.{on_page, end_of}
 use Rattle.reader.proofs.Statements.{first_of, turn, put_turn, put_first, put_last, sibling-none, put_loop, put_while}
-use Rattle.reader.proofs.Checking.{headed_of}
+use Rattle.reader.proofs.Checking.{body_within}
 use Rattle.reader.proofs.writer.Writer.+body_statement.Goals as goal
 
 pub body-statement-requires : goal.body-statement-requires
 body-statement-requires t c =
     let f = first_of c.args.records.now c.args.from c.args.to c.requires.order c.requires.sound in
-    (search rules, (c.requires.order, (c.requires.within, (f.statement, omega (arith, f.forward, f.nested, c.requires.room)))))
+    (search rules, (f.statement, omega (arith, f.forward, f.nested, c.requires.room)))
 
 pub body-loop-next-init : goal.body-loop-next-init
 body-loop-next-init t c =
@@ -27,21 +27,10 @@ body-statement-requires-in-Some t c =
     let le : c.in-Some.next < c.args.to = n.before in (
       search rules,
       (
-        n.before,
-        (
-          c.requires.within,
-          (
-            n.first.statement,
-            omega (arith, f.forward, c.requires.room, c.statement.ensures.short, c.loop-next.invariant.2, c.loop-next.invariant.3, c.loop-next.invariant.6, c.tokens.ensures.short, n.is, n.first.forward, n.first.nested),
-          ),
-        ),
+        n.first.statement,
+        omega (arith, f.forward, c.requires.room, c.statement.ensures.short, c.loop-next.invariant.2, c.loop-next.invariant.3, c.loop-next.invariant.6, c.tokens.ensures.short, n.is, n.first.forward, n.first.nested),
       ),
     )
-
-pub body-loop-next-smaller : goal.body-loop-next-smaller
-body-loop-next-smaller t c =
-    let n = turn c.args.records.now c.loop-next.index c.args.to c.in-Some.next c.in-Some.ensures.answer c.loop-next.invariant.4 in
-    omega (arith, n.is, n.before, c.loop-next.invariant.7)
 
 pub body-loop-next-preserved : goal.body-loop-next-preserved
 body-loop-next-preserved t c =
@@ -58,35 +47,29 @@ body-loop-next-preserved t c =
       n.first.forward,
     )
 
-pub body-returns : goal.body-returns
-body-returns t c =
+pub body-returns-clause-put : goal.body-returns-clause-put
+body-returns-clause-put t c =
     let rs = c.args.records.now in
     let f = first_of c.args.records.now c.args.from c.args.to c.requires.order c.requires.sound in
     let le : c.args.to ≤ end_of c.args.records.now c.loop-next.index =
-    sibling-none rs c.loop-next.index c.args.to (omega (arith, c.requires.within, c.loop-next.invariant.1)) c.in_default.ensures.answer in
-    record {
-      put =
-          sym (put_last rs (end_of rs c.loop-next.index) c.args.to (on_page c.loop-next.self) le) ∙ c.loop-next.invariant.5
-          ∙ sym (put_first rs c.args.from c.args.to (on_page c.args.self.now) (on_page c.statement.new.self) c.requires.order c.requires.sound c.statement.ensures.put);
-      short = omega (arith, f.forward, c.statement.ensures.short, c.loop-next.invariant.3, c.loop-next.invariant.6);
-    }
+    sibling-none rs c.loop-next.index c.args.to (omega (arith, body_within rs c.args.from c.args.to c.requires.order c.requires.sound, c.loop-next.invariant.1)) c.in_default.ensures.answer in
+    sym (put_last rs (end_of rs c.loop-next.index) c.args.to (on_page c.loop-next.self) le) ∙ c.loop-next.invariant.5
+    ∙ sym (put_first rs c.args.from c.args.to (on_page c.args.self.now) (on_page c.statement.new.self) c.requires.order c.requires.sound c.statement.ensures.put)
 
-pub statement-returns-in-Loop : goal.statement-returns-in-Loop
-statement-returns-in-Loop t c =
-    let h = headed_of c.args.records.now c.args.index c.args.to 0 (inl c.in-Loop.is) c.requires.sound in
-    record {
-      put =
-          put_loop c.args.records.now c.args.index (on_page c.args.self.now) (on_page c.tokens-in-Loop.new.self) (on_page c.body.new.self) (on_page c.tokens-in-Loop-2.new.self)
-          c.in-Loop.is c.tokens-in-Loop.ensures.put c.body.ensures.put c.tokens-in-Loop-2.ensures.put;
-      short = omega (arith, h.some, c.tokens-in-Loop.ensures.short, c.body.ensures.short, c.tokens-in-Loop-2.ensures.short);
-    }
+pub body-returns-clause-short : goal.body-returns-clause-short
+body-returns-clause-short t c =
+    let rs = c.args.records.now in
+    let f = first_of c.args.records.now c.args.from c.args.to c.requires.order c.requires.sound in
+    let le : c.args.to ≤ end_of c.args.records.now c.loop-next.index =
+    sibling-none rs c.loop-next.index c.args.to (omega (arith, body_within rs c.args.from c.args.to c.requires.order c.requires.sound, c.loop-next.invariant.1)) c.in_default.ensures.answer in
+    omega (arith, f.forward, c.statement.ensures.short, c.loop-next.invariant.3, c.loop-next.invariant.6)
 
-pub statement-returns-in-While : goal.statement-returns-in-While
-statement-returns-in-While t c =
-    let h = headed_of c.args.records.now c.args.index c.args.to 0 (inr c.in-While.is) c.requires.sound in
-    record {
-      put =
-          put_while c.args.records.now c.args.index (on_page c.args.self.now) (on_page c.tokens-in-While.new.self) (on_page c.body-in-While.new.self) (on_page c.tokens-in-While-2.new.self)
-          c.in-While.is c.tokens-in-While.ensures.put c.body-in-While.ensures.put c.tokens-in-While-2.ensures.put;
-      short = omega (arith, h.some, c.tokens-in-While.ensures.short, c.body-in-While.ensures.short, c.tokens-in-While-2.ensures.short);
-    }
+pub statement-returns-in-Loop-clause-put : goal.statement-returns-in-Loop-clause-put
+statement-returns-in-Loop-clause-put t c =
+    put_loop c.args.records.now c.args.index (on_page c.args.self.now) (on_page c.tokens-in-Loop.new.self) (on_page c.body.new.self) (on_page c.tokens-in-Loop-2.new.self)
+    c.in-Loop.is c.tokens-in-Loop.ensures.put c.body.ensures.put c.tokens-in-Loop-2.ensures.put
+
+pub statement-returns-in-While-clause-put : goal.statement-returns-in-While-clause-put
+statement-returns-in-While-clause-put t c =
+    put_while c.args.records.now c.args.index (on_page c.args.self.now) (on_page c.tokens-in-While.new.self) (on_page c.body-in-While.new.self) (on_page c.tokens-in-While-2.new.self)
+    c.in-While.is c.tokens-in-While.ensures.put c.body-in-While.ensures.put c.tokens-in-While-2.ensures.put

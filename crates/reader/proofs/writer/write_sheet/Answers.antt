@@ -1,14 +1,19 @@
 use Rattle.std.proofs.Common.{◌∙◌, arith, rules}
 use Rattle.reader.specs.Pages.{on_page}
-use Rattle.reader.proofs.Spans.{sheet_few, sheet_some}
+use Rattle.reader.proofs.Spans.{sheet_few}
 use Rattle.reader.proofs.Checking.{sheet_body}
 use Rattle.reader.proofs.Prints.{sheet_written, sheet_memory, sheet_lent}
-use Rattle.reader.proofs.writer.sheets.write_sheet.Goals as goal
+use Rattle.reader.proofs.writer.write_sheet.Goals as goal
 
-pub body-requires : goal.body-requires
-body-requires c =
+pub body-requires-clause-room : goal.body-requires-clause-room
+body-requires-clause-room c =
     let rs = c.args.records.now in
-    record { order = sheet_some rs c.requires; within = omega arith; sound = sheet_body rs c.requires; room = omega (arith, sheet_few rs c.requires) }
+    omega (arith, sheet_few rs c.requires)
+
+pub body-requires-clause-sound : goal.body-requires-clause-sound
+body-requires-clause-sound c =
+    let rs = c.args.records.now in
+    sheet_body rs c.requires
 
 pub returns : goal.returns
 returns c =
