@@ -30,7 +30,7 @@ returns c =
     let w = MatchResult-at_ok _ _ n c.in_ok-statements.was said in
     let s = read_span text room n m w in
     mapped _ _ _ _ c.flatten.result c.map_err-2.result _ c.flatten.ensures c.map_err-2.ensures.cases
-    (λ k h. prepared text room n k m c.args.flats.now c.flatten.new.flats w (h w.sheet w.places s))
+    (λ k h. prepared text room n k m c.args.flats.now c.flatten.new.memory w (h w.sheet w.places s))
     (λ e y h k.
     let is : y ≡ fault Flatten (placed 0 e) = search rules in
     λ c'. subst (LoadRefuses text room (length c.args.flats.now) c') (sym is) (not_flattened text room n (length c.args.flats.now) c' e m w h.0 (h.1 w.sheet w.places s)))
