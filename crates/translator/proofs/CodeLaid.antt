@@ -87,32 +87,28 @@ pub record Looped (rs : List (Placed Flat)) (a b : ℕ) (f : FlatSheet) : Type 0
       → lay l f ≡ instruction (flat_at rs a).role (If (flat_at rs a).statement.source (suc (suc l + code_size body)))
       ∷ (lay (suc l) body ++ instruction role.Jump (Goto l) ∷ lay (suc (suc l + code_size body)) rest)
 
+single_at : (rs : List (Placed Flat)) (a b : ℕ) (x : Flat) (f rest : FlatSheet) → x.statement.end ≡ suc a → get_elem? (map (λ r. r.item) rs) a ≡ some x
+    → Stands (map (λ r. r.item) rs) (suc a) (flat_records_from (suc a) rest) → b ≡ a + suc (flat_size rest) → code_size f ≡ suc (code_size rest)
+    → ((l : ℕ) → lay l f ≡ instruction x.role (assigned x.statement.kind x.statement.target x.statement.source x.statement.constant) ∷ lay (suc l) rest) → Single rs a b f
+single_at rs a b x f rest q g h t w k =
+    let e = item_at rs a x g in
+    let n : end_at rs a ≡ suc a = ap (λ (y : Flat). y.statement.end) e ∙ q in
+    record {
+      rest = rest;
+      more = omega arith;
+      span = subst (λ (z : ℕ). FlatSpan rs z b rest) (sym n) (record { ends = omega arith; stand = h });
+      size = w;
+      code = λ l.
+          k l
+          ∙ ap (λ (y : Flat). instruction y.role (assigned y.statement.kind y.statement.target y.statement.source y.statement.constant) ∷ lay (suc l) rest) (sym e);
+    }
+
 pub single : (rs : List (Placed Flat)) (a b : ℕ) (f : FlatSheet) → ((flat_at rs a).statement.kind ≡ kind.While → ⊥) → FlatSpan rs a b f → a < b → Single rs a b f
 single rs a b flat_done k s l = let e = s.ends in absurd (omega arith)
 single rs a b (flat_plus r i j c f) k s l =
-    let e = item_at rs a (record { statement = statement_of kind.Plus i j c (suc a); role = r }) s.stand.0 in
-    let n : end_at rs a ≡ suc a = ap (λ (x : Flat). x.statement.end) e in
-    let h = s.ends in
-    record {
-      rest = f;
-      more = omega arith;
-      span = subst (λ (z : ℕ). FlatSpan rs z b f) (sym n) (record { ends = omega arith; stand = s.stand.1 });
-      size = refl;
-      code = λ l.
-          ap (λ (x : Flat). instruction x.role (assigned x.statement.kind x.statement.target x.statement.source x.statement.constant) ∷ lay (suc l) f) (sym e);
-    }
+    single_at rs a b (record { statement = statement_of kind.Plus i j c (suc a); role = r }) (flat_plus r i j c f) f refl s.stand.0 s.stand.1 s.ends refl (λ l. refl)
 single rs a b (flat_minus r i j c f) k s l =
-    let e = item_at rs a (record { statement = statement_of kind.Minus i j c (suc a); role = r }) s.stand.0 in
-    let n : end_at rs a ≡ suc a = ap (λ (x : Flat). x.statement.end) e in
-    let h = s.ends in
-    record {
-      rest = f;
-      more = omega arith;
-      span = subst (λ (z : ℕ). FlatSpan rs z b f) (sym n) (record { ends = omega arith; stand = s.stand.1 });
-      size = refl;
-      code = λ l.
-          ap (λ (x : Flat). instruction x.role (assigned x.statement.kind x.statement.target x.statement.source x.statement.constant) ∷ lay (suc l) f) (sym e);
-    }
+    single_at rs a b (record { statement = statement_of kind.Minus i j c (suc a); role = r }) (flat_minus r i j c f) f refl s.stand.0 s.stand.1 s.ends refl (λ l. refl)
 single rs a b (flat_while r i p f) k s l =
     absurd (k (ap (λ (x : Flat). x.statement.kind) (item_at rs a (record { statement = statement_of kind.While 0 i 0 (suc a + flat_size p); role = r }) s.stand.0)))
 
