@@ -433,9 +433,6 @@ none_left rs n b p (while i r q) xs ys c k t u h s w = let e = s.ends in absurd 
 pub all_filed : (rs : List (Placed Statement)) (n b : ℕ) (p : Sheet) (xs : List ℕ) (c k : ℕ) (t u : Table (Placed Flat)) → b ≤ n → StatementFlat rs b p xs c t n k u → FlatsFiled p xs c t k u
 all_filed rs n b p xs c k t u h w = none_left rs n b p w.rest xs w.places c k t u h w.spans w.left
 
-pub none-filed : (rs : List (Placed Statement)) (n b : ℕ) (p : Sheet) (xs : List ℕ) (c : ℕ) (t : Table (Placed Flat)) → RecordSpan rs n b p xs → StatementFlat rs b p xs c t n c t
-none-filed rs n b p xs c t s = record { rest = p; places = xs; spans = s; left = record { counters = refl; counted = refl; filled = refl } }
-
 pub more_filed : (rs : List (Placed Statement)) (n m b : ℕ) (p : Sheet) (xs : List ℕ) (c k l : ℕ) (t u v : Table (Placed Flat)) (w : StatementFlat rs b p xs c t n k u)
     → StatementFlat rs b w.rest w.places k u m l v → StatementFlat rs b p xs c t m l v
 more_filed rs n m b p xs c k l t u v w z =
