@@ -24,6 +24,7 @@ use Rattle.translator.specs.Seals.{sealed_width, Sound, SealRefuses, jump_open, 
 use Rattle.translator.specs.Laying.{Stands, FlatSpan, Coded}
 use Rattle.translator.specs.Flattening.{RecordSpan, Flattened}
 use Rattle.translator.specs.Loading.{fault, cleared_flats, SpelledSheet, Prepared, Loaded, LoadRefuses, unread, unflattened, unlaid}
+use Rattle.translator.proofs.Results.{mapped}
 use Rattle.translator.proofs.FlatFiled.{same_long}
 use Rattle.translator.proofs.SealedSheets.{sheet_sealed}
 use Rattle.translator.proofs.Width.{code_width}
@@ -37,13 +38,6 @@ pub record ReadSheet (text : List ℕ) (r n : ℕ) (m : List (Placed Statement))
   pub counted : n ≡ size sheet
   pub room : size sheet ≤ r
   pub filled : m ≡ with_places places (records sheet) ++ cleared (r - size sheet)
-
--- what `map_err` makes of a result, where F is what its closure gives
-pub mapped : {A B C : Type 0} (P P' : A → Type 0) (Q : B → Type 0) (Q' : C → Type 0) (r : Result A B) (s : Result A C) (F : B → C → Type 0)
-    → MatchResult r P Q → MatchResult r (λ x. s ≡ Ok x) (λ e. IsErrAnd s (F e)) → ((x : A) → P x → P' x) → ((e : B) (y : C) → Q e → F e y → Q' y) → MatchResult s P' Q'
-mapped P P' Q Q' (Ok x) s F h m p q = subst (λ z. MatchResult z P' Q') (sym m) (p x h)
-mapped P P' Q Q' (Err e) (Ok y) F h m p q = absurd m
-mapped P P' Q Q' (Err e) (Err y) F h m p q = q e y h m
 
 read_said : (text : List ℕ) (room : ℕ) (r : Result ℕ (Placed Refusal)) (m : List (Placed Statement)) → ReadAnswers text room r m
     → MatchResult r (λ n. ReadSheet text room n m) (λ e. ReadAnswers text room (Err e) (cleared room))

@@ -1,5 +1,4 @@
 use Rattle.std.proofs.Common.{◌≡◌, ◌+◌, ◌<◌, ◌≤◌, ◌∙◌, subst, arith, rules}
-use Rattle.std.proofs.lemmas.Result.{err_from_is_err_and}
 use Rattle.reader.specs.declared.types.Statement.{Statement}
 use Rattle.reader.specs.declared.types.Kind.TheVariants as kind
 use Rattle.reader.specs.Symbols.{placed}
@@ -7,6 +6,7 @@ use Rattle.reader.specs.Records.{statement_of}
 use Rattle.filing.specs.Tables.{count}
 use Rattle.translator.specs.declared.types.Role.TheVariants as role
 use Rattle.translator.specs.Flattening.{flat_of, OneFiled}
+use Rattle.translator.proofs.Results.{handed_up}
 use Rattle.translator.proofs.FlatFiled.{record_at, end_at, span_below, end_within, assigns, loops-at, whiles-at, after_assignment, past_while, after_loop, all_filed, more_filed, over_later, counters_later, assignment_over, while_over, loop_over, while_body_over, loop_body_over}
 use Rattle.translator.proofs.flatten.+flatten_body_flatten_statement.Goals as goal
 
@@ -23,8 +23,7 @@ flatten_body-flatten_statement-requires t c =
 pub flatten_body-returns-in_err-at-clause-filed : goal.flatten_body-returns-in_err-at-clause-filed
 flatten_body-returns-in_err-at-clause-filed t c =
     let E = c.in_err-at.ensures.filed in
-    let e = err_from_is_err_and c.from_residual.result c.from_residual.ensures.1 in
-    rw (e.1, e.2) (
+    handed_up _ _ c.from_residual.result c.from_residual.ensures.1 (
       E.0,
       λ p xs s.
           let w = c.loop-at.invariant.1 p xs s in
@@ -62,8 +61,7 @@ flatten_statement-bounds-records-at t c = let P = c.requires.sheet in span_below
 pub flatten_statement-returns-in_err-head-in-Loop-clause-filed : goal.flatten_statement-returns-in_err-head-in-Loop-clause-filed
 flatten_statement-returns-in_err-head-in-Loop-clause-filed t c =
     let E = c.in_err-head-in-Loop.ensures.opened in
-    let e = err_from_is_err_and c.from_residual.result c.from_residual.ensures.1 in
-    rw (e.1, e.2) (
+    handed_up _ _ c.from_residual.result c.from_residual.ensures.1 (
       E.0,
       λ b p xs s l.
           loop_over c.args.records.now c.args.at b p xs c.args.counter.now c.args.flats.now (loops-at c.args.records.now c.args.at b p xs c.in-Loop.is s l) E.1,
@@ -83,8 +81,7 @@ flatten_statement-returns-in_err-flatten_body-in-Loop-clause-filed t c =
     let rs = c.args.records.now in
     let O = c.in_ok-head-in-Loop.ensures in
     let E = c.in_err-flatten_body-in-Loop.ensures.filed in
-    let e = err_from_is_err_and c.from_residual-in_err-flatten_body-in-Loop.result c.from_residual-in_err-flatten_body-in-Loop.ensures.1 in
-    rw (e.1, e.2) (
+    handed_up _ _ c.from_residual-in_err-flatten_body-in-Loop.result c.from_residual-in_err-flatten_body-in-Loop.ensures.1 (
       E.0,
       λ b p xs s l.
           let v = loops-at rs c.args.at b p xs c.in-Loop.is s l in
@@ -126,8 +123,7 @@ flatten_statement-returns-in_ok-flatten_body-in-Loop-clause-filed t c =
 pub flatten_statement-returns-in_err-head-in-While-clause-filed : goal.flatten_statement-returns-in_err-head-in-While-clause-filed
 flatten_statement-returns-in_err-head-in-While-clause-filed t c =
     let E = c.in_err-head-in-While.ensures.filed in
-    let e = err_from_is_err_and c.from_residual-in_err-head-in-While.result c.from_residual-in_err-head-in-While.ensures.1 in
-    rw (e.1, e.2) (
+    handed_up _ _ c.from_residual-in_err-head-in-While.result c.from_residual-in_err-head-in-While.ensures.1 (
       E.0,
       λ b p xs s l.
           while_over c.args.records.now c.args.at b p xs c.args.counter.now c.args.flats.now (whiles-at c.args.records.now c.args.at b p xs c.in-While.is s l) E.1,
@@ -148,8 +144,7 @@ flatten_statement-returns-in_err-flatten_body-in-While-clause-filed t c =
     let F = c.in_ok-head-in-While.ensures in
     let E = c.in_err-flatten_body-in-While.ensures.filed in
     let x = placed (record_at rs c.args.at).place (flat_of c.while_over-opened.result role.Written) in
-    let e = err_from_is_err_and c.from_residual-in_err-flatten_body-in-While.result c.from_residual-in_err-flatten_body-in-While.ensures.1 in
-    rw (e.1, e.2) (
+    handed_up _ _ c.from_residual-in_err-flatten_body-in-While.result c.from_residual-in_err-flatten_body-in-While.ensures.1 (
       E.0,
       λ b p xs s l.
           let v = whiles-at rs c.args.at b p xs c.in-While.is s l in
@@ -194,9 +189,8 @@ flatten_statement-returns-in_ok-flatten_body-in-While-clause-filed t c =
 pub flatten_statement-returns-in_err-file-in_default : goal.flatten_statement-returns-in_err-file-in_default
 flatten_statement-returns-in_err-file-in_default t c =
     let E = c.in_err-file-in_default.ensures in
-    let e = err_from_is_err_and c.from_residual-in_err-file-in_default.result c.from_residual-in_err-file-in_default.ensures.1 in
     record {
-      filed = rw (e.1, e.2) (
+      filed = handed_up _ _ c.from_residual-in_err-file-in_default.result c.from_residual-in_err-file-in_default.ensures.1 (
         E.filed.0,
         λ b p xs s l.
             assignment_over c.args.records.now c.args.at b p xs c.args.counter.now c.args.flats.now
