@@ -33,7 +33,7 @@ end_at rs a = (record_at rs a).item.end
 
 -- lists with places
 
-places_length_more : (xs : List ℕ) (ss : List Statement) → length xs ≡ length ss → length (with_places xs ss) ≡ length ss
+pub places_length_more : (xs : List ℕ) (ss : List Statement) → length xs ≡ length ss → length (with_places xs ss) ≡ length ss
 places_length_more [] [] h = refl
 places_length_more [] (s ∷ ss) h = absurd (omega arith)
 places_length_more (x ∷ xs) [] h = refl

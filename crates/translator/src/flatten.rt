@@ -162,19 +162,18 @@ fn flatten_body(
 // Files the flat statements of a whole sheet, zero ones behind them, and answers how many there are.
 fn file_sheet(
     records: &[Placed<Statement>],
-    statements: usize,
     table: &mut Table<Placed<Flat>>,
 ) -> Result<usize, Refusal>
-    requires sheet { (p : Sheet) × (xs : List ℕ) × RecordSpan records.now 0 statements p xs × (loops p ≤ 32) }
+    requires sheet { (p : Sheet) × (xs : List ℕ) × RecordSpan records.now 0 (length records.now) p xs × (loops p ≤ 32) }
     requires empty { count table.old ≡ 0 }
     requires small { length (memory table.old) < 2 ^ 60 }
     ensures filed { MatchResult result
-        (λ n. ((p : Sheet) (xs : List ℕ) → RecordSpan records.now 0 statements p xs → Flattened p xs (memory table.old) n (memory table.new)))
-        (λ e. (e ≡ FlatFull) × ((p : Sheet) (xs : List ℕ) → RecordSpan records.now 0 statements p xs → length (memory table.old) < flat_size (flat p))) }
+        (λ n. ((p : Sheet) (xs : List ℕ) → RecordSpan records.now 0 (length records.now) p xs → Flattened p xs (memory table.old) n (memory table.new)))
+        (λ e. (e ≡ FlatFull) × ((p : Sheet) (xs : List ℕ) → RecordSpan records.now 0 (length records.now) p xs → length (memory table.old) < flat_size (flat p))) }
     ensures lent { lent table.new ≡ lent table.old }
 {
     let mut counter = 32;
-    flatten_body(records, 0, statements, &mut counter, table)?;
+    flatten_body(records, 0, records.len(), &mut counter, table)?;
     table.clear_rest(ZERO_FLAT);
     Ok(table.len())
 }
@@ -182,14 +181,13 @@ fn file_sheet(
 // Fills the memory with the flat statements of a sheet, zero ones behind them, and answers how many there are.
 pub(crate) fn flatten(
     records: &[Placed<Statement>],
-    statements: usize,
     memory: &mut [Placed<Flat>],
 ) -> Result<usize, Refusal>
-    requires { (p : Sheet) × (xs : List ℕ) × RecordSpan records.now 0 statements p xs × (loops p ≤ 32) }
+    requires { (p : Sheet) × (xs : List ℕ) × RecordSpan records.now 0 (length records.now) p xs × (loops p ≤ 32) }
     ensures { MatchResult result
-        (λ n. ((p : Sheet) (xs : List ℕ) → RecordSpan records.now 0 statements p xs → Flattened p xs memory.old n memory.new))
-        (λ e. (e ≡ FlatFull) × ((p : Sheet) (xs : List ℕ) → RecordSpan records.now 0 statements p xs → length memory.old < flat_size (flat p))) }
+        (λ n. ((p : Sheet) (xs : List ℕ) → RecordSpan records.now 0 (length records.now) p xs → Flattened p xs memory.old n memory.new))
+        (λ e. (e ≡ FlatFull) × ((p : Sheet) (xs : List ℕ) → RecordSpan records.now 0 (length records.now) p xs → length memory.old < flat_size (flat p))) }
 {
     let mut table = Table::new(memory);
-    file_sheet(records, statements, &mut table)
+    file_sheet(records, &mut table)
 }

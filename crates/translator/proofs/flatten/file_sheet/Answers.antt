@@ -1,4 +1,4 @@
-use Rattle.std.proofs.Common.{sym, subst}
+use Rattle.std.proofs.Common.{length, sym, subst}
 use Rattle.filing.specs.Tables.{memory}
 use Rattle.translator.specs.Flattening.{Flattened}
 use Rattle.translator.proofs.FlatFiled.{flattened}
@@ -11,4 +11,4 @@ returns-clause-filed c =
     let t = c.args.table.now in
     let v = c.clear_rest.new.self in
     λ p xs s. subst (λ n. Flattened p xs (memory t) n (memory v)) (sym c.len.ensures)
-    (flattened c.args.records.now c.args.statements p xs c.flatten_body.new.counter t c.flatten_body.new.flats v c.requires.empty s (B.filed p xs s) B.room K.count K.memory)
+    (flattened c.args.records.now (length c.args.records.now) p xs c.flatten_body.new.counter t c.flatten_body.new.flats v c.requires.empty s (B.filed p xs s) B.room K.count K.memory)
