@@ -1,5 +1,5 @@
 -- What is filed in a table of instructions, and questions about a list of them.
-use Rattle.std.proofs.Common.{◌≡◌, ℕ, zero, suc, ◌-◌, ◌<◌, ◌≤◌, max, Bool, true, false, T, List, [], ◌∷◌, length, get_or, drop, slice_get, Some, None, Option as Answer, option_copied, MatchOption, sym, refl, ap, ◌∙◌, subst, arith, length-take}
+use Rattle.std.proofs.Common.{◌≡◌, ℕ, zero, suc, ◌-◌, ◌<◌, ◌≤◌, max, Bool, true, false, T, List, [], ◌∷◌, length, get_or, drop, slice_get, Some, None, Option as Answer, option_copied, MatchOption, HoldsAt, sym, refl, ap, ◌∙◌, subst, arith, length-take}
 use mathlib.Core.Option.{Option, some, none}
 use lib.ListN.{get_elem?}
 use Rattle.std.specs.List.{list_all}
@@ -41,10 +41,15 @@ pub elem_is : {A : Type 0} (xs : List A) (i : ℕ) (x d : A) → get_elem? xs i 
 elem_is xs i x d e = let f = elem_get_or xs i d (elem_below xs i x e) in cc
 
 -- the instruction at an index, as a slice answers it
-pub asked : (c : List Instruction) (i : ℕ) → slice_get c i ≡ answer (instruction_at c (suc i))
+asked : (c : List Instruction) (i : ℕ) → slice_get c i ≡ answer (instruction_at c (suc i))
 asked [] i = refl
 asked (x ∷ c) zero = refl
 asked (x ∷ c) (suc i) = asked c i
+
+pub asked_at : (c : List Instruction) (i : ℕ) (o : Answer (Bor Instruction)) → MatchOption o (length c ≤ i) (λ x. (i < length c) × HoldsAt (λ y. x.now ≡ y) c i)
+    → option_copied o ≡ answer (instruction_at c (suc i))
+asked_at c i (Some x) h = sym (ap answer (elem_get_or c i x.now h.0 ∙ ap some (sym (h.1 x.now))))
+asked_at c i None h = sym (ap answer (elem_past c i h))
 
 some_answered : (o : Option Instruction) (x : Instruction) → Some x ≡ answer o → o ≡ some x
 some_answered none x e = let z : ◌≡◌ {A = ℕ} 0 1 = cc in absurd (omega arith)
