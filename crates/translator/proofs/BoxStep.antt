@@ -8,7 +8,7 @@ use Rattle.reader.specs.Steps.{went, waits, if_low}
 use Rattle.reader.specs.WrittenRun.{Counts, running, times, written_step, after_while, one_plain}
 use Rattle.translator.specs.JumpCode.{halt, instruction_at, Box, inside, fits, box_step, obey, obey_fit, obey_at, to, after_if, tallied}
 use Rattle.translator.specs.Following.{Silent, Wrote, RoleAt}
-use Rattle.translator.specs.Standing.{Away, Lays, Around, outermost, in_while, in_loop, counters, levels, tail, pending, Ends, Spot, before, testing, lowering, lack, quiet_at, quiet, seen, StandsAt}
+use Rattle.translator.specs.Standing.{Away, Lays, Around, outermost, in_while, in_loop, counters, levels, tail, pending, Ends, Spot, before, testing, lowering, Place, Live, owed_of, lack, lack_of, quiet_at, quiet, seen, StandsAt}
 use Rattle.translator.specs.declared.types.Role.TheVariants.{Written, Entry, Test, Down}
 use Rattle.translator.specs.declared.types.Operation.TheVariants.{If}
 use Rattle.translator.specs.declared.types.Instruction.{Instruction}
@@ -127,6 +127,27 @@ fit_test : (code : List Instruction) (n i k : ℕ) → i < n → There code k �
 fit_test code n i k h t = test_fit n (length code) i k h (fit_label code k t.0 t.1)
 
 module _ (code : List Instruction) (n d top : ℕ) (s : Box) where
+  -- at a label, with other tallies: the numbers are as they were, or v is written at x
+  kept : {m : Spot} (l : ℕ) (c : Counts) (m' : Spot) → StandsAt code n d top s m → Place code n d l m' → Live s.registers m'
+      → suc s.steps + owed_of m' ≡ c.written + c.entered + 3 * c.rounds + c.whiles → c.entered ≤ c.written → c.rounds + c.whiles + lack_of m' ≤ c.written
+      → StandsAt code n d top (to l s.registers c s) m'
+  kept l c m' h at live paid few bound = record { place = at; live = live; wide = h.wide; long = h.long; low = h.low; paid = paid; few = few; bound = bound }
+
+  put : {m : Spot} (x v l : ℕ) (c : Counts) (m' : Spot) → StandsAt code n d top s m → v ≤ top → Place code n d l m' → Live (set s.registers x v) m'
+      → suc s.steps + owed_of m' ≡ c.written + c.entered + 3 * c.rounds + c.whiles → c.entered ≤ c.written → c.rounds + c.whiles + lack_of m' ≤ c.written
+      → StandsAt code n d top (to l (set s.registers x v) c s) m'
+  put x v l c m' h le at live paid few bound =
+      record {
+        place = at;
+        live = live;
+        wide = h.wide;
+        long = set_long n s.registers x v h.long;
+        low = set_low s.registers x v top h.low le;
+        paid = paid;
+        few = few;
+        bound = bound;
+      }
+
   -- xi := xj + c
   step_plus : (i j c : ℕ) (p : Sheet) (k : Around) → StandsAt code n d top s (before (plus i j c p) k)
       → (x : Bool) → leb (get_or s.registers j 0 + c) top ≡ x → Stepped code n d top s (before (plus i j c p) k)
@@ -144,16 +165,7 @@ module _ (code : List Instruction) (n d top : ℕ) (s : Box) where
       let s' : Box = to (suc s.label) (set ν i v) (tallied Written s.counts) s in
       wrote s' (before p k) (_, at.1.2, tt) (obeys code n top s at.1.2 (two_fit n i j (omega (arith, at.1.0, h.wide)) (omega (arith, at.1.1, h.wide))) ∙ ap (λ (x : Bool). if_low x s') e)
       (record { steps = refl; written = omega arith })
-      (record {
-        place = (at.0, at.1.3, at.2, at.3);
-        live = tt;
-        wide = h.wide;
-        long = set_long n ν i v h.long;
-        low = set_low ν i v top h.low v_low;
-        paid = omega arith;
-        few = omega arith;
-        bound = omega arith;
-      })
+      (put i v _ _ _ h v_low (at.0, at.1.3, at.2, at.3) tt (omega arith) (omega arith) (omega arith))
       (ap (λ (x : ℕ). if_low (leb (x + c) top) (running (set (take 32 ν) i (x + c)) (then p (tail ν k)) (one_plain (seen s (before p k)).counts))) reads
       ∙ ap (λ (x : Bool). if_low x (running (set (take 32 ν) i v) (then p (tail ν k)) (one_plain (seen s (before p k)).counts))) e
       ∙ ap went (run_path (sym (take-set-lt 32 ν i v at.1.0)) (ap (then p) (sym (tail-set ν i v k away))) (counts_path (ap (λ (x : ℕ). s.counts.rounds + x) (sym (pending-set ν i v k away))))))
@@ -181,16 +193,7 @@ module _ (code : List Instruction) (n d top : ℕ) (s : Box) where
       let l = lack_one p in
       wrote (to (suc s.label) (set ν i v) (tallied Written s.counts) s) (before p k) (_, at.1.2, tt) (obeys code n top s at.1.2 (two_fit n i j (omega (arith, at.1.0, h.wide)) (omega (arith, at.1.1, h.wide))))
       (record { steps = refl; written = omega arith })
-      (record {
-        place = (at.0, at.1.3, at.2, at.3);
-        live = tt;
-        wide = h.wide;
-        long = set_long n ν i v h.long;
-        low = set_low ν i v top h.low v_low;
-        paid = omega arith;
-        few = omega arith;
-        bound = omega arith;
-      })
+      (put i v _ _ _ h v_low (at.0, at.1.3, at.2, at.3) tt (omega arith) (omega arith) (omega arith))
       (ap (λ (x : ℕ). went (running (set (take 32 ν) i (x - c)) (then p (tail ν k)) (one_plain (seen s (before p k)).counts))) reads
       ∙ ap went (run_path (sym (take-set-lt 32 ν i v at.1.0)) (ap (then p) (sym (tail-set ν i v k away))) (counts_path (ap (λ (x : ℕ). s.counts.rounds + x) (sym (pending-set ν i v k away))))))
 
@@ -219,16 +222,7 @@ module _ (code : List Instruction) (n d top : ℕ) (s : Box) where
       let s' : Box = to (suc s.label) ν' (tallied Entry s.counts) s in
       wrote s' (testing c b p k) (_, at.1.3, tt) (obeys code n top s at.1.3 (two_fit n c i below (omega (arith, at.1.2, h.wide))) ∙ ap (λ (x : Bool). if_low x s') (is_true (leb v top) (le→leb v top v_low)))
       (record { steps = refl; written = omega arith })
-      (record {
-        place = (at.1.1, at.0, laid, record { body_deep = omega arith; after_deep = omega arith; rest = at.2 });
-        live = tt;
-        wide = h.wide;
-        long = set_long n ν c v h.long;
-        low = set_low ν c v top h.low v_low;
-        paid = omega arith;
-        few = omega arith;
-        bound = omega arith;
-      })
+      (put c v _ _ _ h v_low (at.1.1, at.0, laid, record { body_deep = omega arith; after_deep = omega arith; rest = at.2 }) tt (omega arith) (omega arith) (omega arith))
       (ap went (run_path (sym (take-set-le 32 ν c v laid.counter.high)) (λ z. times (reads z) b (then p (sym rests z))) (counts_path (omega arith))))
 
   -- the test of a WHILE
@@ -245,16 +239,7 @@ module _ (code : List Instruction) (n d top : ℕ) (s : Box) where
       let l = lack_one p in
       wrote (after_if 0 Written (suc at.1.0) s) (before p k) (_, laid.test, tt) (obeys code n top s laid.test (fit_test code n i (suc at.1.0) (omega (arith, laid.reads, h.wide)) (lays_there code n (suc at.1.0) at.0 (counters k) p laid.after (ends_there code n d at.0 k at.2))) ∙ ap (λ (x : ℕ). went (after_if x Written (suc at.1.0) s)) e)
       (record { steps = refl; written = omega arith })
-      (record {
-        place = (at.0, laid.after, at.2, omega arith);
-        live = tt;
-        wide = h.wide;
-        long = h.long;
-        low = h.low;
-        paid = omega arith;
-        few = omega arith;
-        bound = omega arith;
-      })
+      (kept _ _ _ h (at.0, laid.after, at.2, omega arith) tt (omega arith) (omega arith) (omega arith))
       (ap (λ (x : ℕ). went (after_while x i b (then p (tail s.registers k)) (take 32 s.registers) (seen s (before p k)).counts)) reads)
   step_while i b p k h (suc v) e =
       let at = h.place in
@@ -268,16 +253,7 @@ module _ (code : List Instruction) (n d top : ℕ) (s : Box) where
       wrote (after_if (suc v) Written (suc at.1.0) s) (before b (in_while i b p k))
       (_, laid.test, tt) (obeys code n top s laid.test (fit_test code n i (suc at.1.0) (omega (arith, laid.reads, h.wide)) (lays_there code n (suc at.1.0) at.0 (counters k) p laid.after (ends_there code n d at.0 k at.2))) ∙ ap (λ (x : ℕ). went (after_if x Written (suc at.1.0) s)) e)
       (record { steps = refl; written = omega arith })
-      (record {
-        place = (at.1.0, laid.body, (s.label, at.0, laid, record { body_deep = omega arith; after_deep = omega arith; rest = at.2 }), omega arith);
-        live = tt;
-        wide = h.wide;
-        long = h.long;
-        low = h.low;
-        paid = omega arith;
-        few = omega arith;
-        bound = omega arith;
-      })
+      (kept _ _ _ h (at.1.0, laid.body, (s.label, at.0, laid, record { body_deep = omega arith; after_deep = omega arith; rest = at.2 }), omega arith) tt (omega arith) (omega arith) (omega arith))
       (ap (λ (x : ℕ). went (after_while x i b (then p (tail s.registers k)) (take 32 s.registers) (seen s (before p k)).counts)) reads)
 
   -- the counter test of a LOOP
@@ -292,16 +268,7 @@ module _ (code : List Instruction) (n d top : ℕ) (s : Box) where
       let most = quiet_most p k in
       silent (after_if 0 Test (suc at.0) s) (before p k) (_, at.2.test, tt) (obeys code n top s at.2.test (fit_test code n c (suc at.0) at.2.counter.below (lays_there code n (suc at.0) at.1 (counters k) p at.2.after (ends_there code n d at.1 k at.3.rest))) ∙ ap (λ (x : ℕ). went (after_if x Test (suc at.0) s)) e)
       (record { steps = refl; written = omega arith })
-      (record {
-        place = (at.1, at.2.after, at.3.rest, at.3.after_deep);
-        live = tt;
-        wide = h.wide;
-        long = h.long;
-        low = h.low;
-        paid = omega arith;
-        few = h.few;
-        bound = omega arith;
-      })
+      (kept _ _ _ h (at.1, at.2.after, at.3.rest, at.3.after_deep) tt (omega arith) h.few (omega arith))
       (run_path refl (ap (λ (x : ℕ). times x b (then p (tail ν k))) (sym e)) (counts_path (omega arith)))
       (omega arith)
   step_testing c b p k h (suc v) e =
@@ -309,16 +276,7 @@ module _ (code : List Instruction) (n d top : ℕ) (s : Box) where
       silent (after_if (suc v) Test (suc h.place.0) s) (lowering c b p k)
       (_, h.place.2.test, tt) (obeys code n top s h.place.2.test (fit_test code n c (suc h.place.0) h.place.2.counter.below (lays_there code n (suc h.place.0) h.place.1 (counters k) p h.place.2.after (ends_there code n d h.place.1 k h.place.3.rest))) ∙ ap (λ (x : ℕ). went (after_if x Test (suc h.place.0) s)) e)
       (record { steps = refl; written = omega arith })
-      (record {
-        place = (s.label, refl, h.place);
-        live = (v, e);
-        wide = h.wide;
-        long = h.long;
-        low = h.low;
-        paid = omega arith;
-        few = h.few;
-        bound = h.bound;
-      })
+      (kept _ _ _ h (s.label, refl, h.place) (v, e) (omega arith) h.few h.bound)
       refl (omega arith)
 
   -- the counter goes down
@@ -348,16 +306,7 @@ module _ (code : List Instruction) (n d top : ℕ) (s : Box) where
       let g = h.bound in
       silent (to (suc s.label) ν' (tallied Down s.counts) s) (before b (in_loop c b p k)) (_, ap (instruction_at code) is ∙ laid.down, tt) (obeys code n top s (ap (instruction_at code) is ∙ laid.down) (two_fit n c c below below))
       (record { steps = refl; written = omega arith })
-      (record {
-        place = (at.0, subst (λ (x : ℕ). Lays code n (c ∷ counters k) b (suc x) at.0) (sym is) laid.body, (t, at.1, laid, at.3), omega arith);
-        live = tt;
-        wide = h.wide;
-        long = set_long n ν c v h.long;
-        low = set_low ν c v top h.low v_low;
-        paid = omega arith;
-        few = h.few;
-        bound = omega arith;
-      })
+      (put c v _ _ _ h v_low (at.0, subst (λ (x : ℕ). Lays code n (c ∷ counters k) b (suc x) at.0) (sym is) laid.body, (t, at.1, laid, at.3), omega arith) tt (omega arith) h.few (omega arith))
       (run_path (take-set-le 32 ν c v laid.counter.high)
       ((λ z. then b (times (reads z) b (then p (rests z)))) ∙ ap (λ (x : ℕ). times x b (then p (tail ν k))) (sym left))
       (counts_path (omega arith)))
@@ -373,16 +322,7 @@ module _ (code : List Instruction) (n d top : ℕ) (s : Box) where
       let deep2 = e.3.after_deep in
       silent (to e.0 s.registers s.counts s) (before (while i b p) k) (_, ap (instruction_at code) h.place.1 ∙ e.2.back, tt) (obeys code n top s (ap (instruction_at code) h.place.1 ∙ e.2.back) (fit_label code e.0 _ e.2.test))
       (record { steps = refl; written = omega arith })
-      (record {
-        place = (e.1, (h.place.0, e.2), e.3.rest, omega arith);
-        live = tt;
-        wide = h.wide;
-        long = h.long;
-        low = h.low;
-        paid = omega arith;
-        few = h.few;
-        bound = omega arith;
-      })
+      (kept _ _ _ h (e.1, (h.place.0, e.2), e.3.rest, omega arith) tt (omega arith) h.few (omega arith))
       refl (omega arith)
 
   step-again : (c : ℕ) (b p : Sheet) (k : Around) → StandsAt code n d top s (before done (in_loop c b p k)) → Stepped code n d top s (before done (in_loop c b p k))
@@ -391,16 +331,7 @@ module _ (code : List Instruction) (n d top : ℕ) (s : Box) where
       let q = h.paid in
       silent (to e.0 s.registers s.counts s) (testing c b p k) (_, ap (instruction_at code) h.place.1 ∙ e.2.back, tt) (obeys code n top s (ap (instruction_at code) h.place.1 ∙ e.2.back) (fit_label code e.0 _ e.2.test))
       (record { steps = refl; written = omega arith })
-      (record {
-        place = (h.place.0, e.1, e.2, e.3);
-        live = tt;
-        wide = h.wide;
-        long = h.long;
-        low = h.low;
-        paid = omega arith;
-        few = h.few;
-        bound = h.bound;
-      })
+      (kept _ _ _ h (h.place.0, e.1, e.2, e.3) tt (omega arith) h.few h.bound)
       refl (omega arith)
 
 pub step : (code : List Instruction) (n d top : ℕ) (s : Box) (m : Spot) → StandsAt code n d top s m → Stepped code n d top s m

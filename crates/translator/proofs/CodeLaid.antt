@@ -1,13 +1,11 @@
 -- Laying the code of flat statements.
-use Rattle.std.proofs.Common.{◌≡◌, ℕ, zero, suc, ◌+◌, ◌-◌, ◌<◌, ◌≤◌, T, List, [], ◌∷◌, ◌++◌, map, length, get_or, take, set, replicate, Ok, Err, Result, sym, refl, ap, ◌∙◌, subst, add-zero, arith, length-append, length-set, MatchResult}
+use Rattle.std.proofs.Common.{◌≡◌, ℕ, zero, suc, ◌+◌, ◌-◌, ◌<◌, ◌≤◌, T, List, [], ◌∷◌, ◌++◌, map, length, get_or, take, set, replicate, sym, refl, ap, ◌∙◌, subst, add-zero, arith, length-append, length-set}
 use mathlib.Core.Option.{some}
-use lib.ListN.{get_elem?, length-replicate}
+use lib.ListN.{get_elem?}
 use Rattle.std.proofs.lemmas.List.{take_at}
 use Rattle.reader.specs.Sheet.{Sheet}
 use Rattle.filing.specs.Tables.{overwrite}
 use Rattle.reader.specs.declared.types.Placed.{Placed}
-use Rattle.reader.specs.declared.types.Refusal.{Refusal}
-use Rattle.reader.specs.declared.types.Refusal.TheVariants.{CodeFull, NotOpen}
 use Rattle.reader.specs.declared.types.Kind.{Kind}
 use Rattle.reader.specs.declared.types.Kind.TheVariants as kind
 use Rattle.reader.specs.Symbols.{placed}
@@ -20,7 +18,7 @@ use Rattle.translator.specs.declared.types.Instruction.{Instruction}
 use Rattle.translator.specs.declared.types.Flat.{Flat}
 use Rattle.translator.specs.JumpCode.{instruction, halt}
 use Rattle.translator.specs.Translation.{FlatSheet, flat_done, flat_plus, flat_minus, flat_while, flat, flat_size, code_size, lay, compiled, flat_records_from}
-use Rattle.translator.specs.Drafts.{draft_memory, laid, laid_code, next_label, is_open, OpenAt, aimed, Appended, Replaced, Unchanged, Cleared, Full}
+use Rattle.translator.specs.Drafts.{draft_memory, laid, laid_code, next_label, is_open, OpenAt, aimed, Appended, Replaced, Cleared, Full}
 use Rattle.translator.specs.Laying.{Stands, FlatSpan, assigned, CodeLaid, CodeLeft, StatementLaid, RoundLaid, NoRoom, NoRoomForRound, Coded}
 use Rattle.reader.proofs.Overwriting.{length-overwrite, overwrite_append}
 use Rattle.translator.proofs.Overwriting.{patched, kept, take-overwrite}
@@ -87,32 +85,28 @@ pub record Looped (rs : List (Placed Flat)) (a b : ℕ) (f : FlatSheet) : Type 0
       → lay l f ≡ instruction (flat_at rs a).role (If (flat_at rs a).statement.source (suc (suc l + code_size body)))
       ∷ (lay (suc l) body ++ instruction role.Jump (Goto l) ∷ lay (suc (suc l + code_size body)) rest)
 
+single_at : (rs : List (Placed Flat)) (a b : ℕ) (x : Flat) (f rest : FlatSheet) → x.statement.end ≡ suc a → get_elem? (map (λ r. r.item) rs) a ≡ some x
+    → Stands (map (λ r. r.item) rs) (suc a) (flat_records_from (suc a) rest) → b ≡ a + suc (flat_size rest) → code_size f ≡ suc (code_size rest)
+    → ((l : ℕ) → lay l f ≡ instruction x.role (assigned x.statement.kind x.statement.target x.statement.source x.statement.constant) ∷ lay (suc l) rest) → Single rs a b f
+single_at rs a b x f rest q g h t w k =
+    let e = item_at rs a x g in
+    let n : end_at rs a ≡ suc a = ap (λ (y : Flat). y.statement.end) e ∙ q in
+    record {
+      rest = rest;
+      more = omega arith;
+      span = subst (λ (z : ℕ). FlatSpan rs z b rest) (sym n) (record { ends = omega arith; stand = h });
+      size = w;
+      code = λ l.
+          k l
+          ∙ ap (λ (y : Flat). instruction y.role (assigned y.statement.kind y.statement.target y.statement.source y.statement.constant) ∷ lay (suc l) rest) (sym e);
+    }
+
 pub single : (rs : List (Placed Flat)) (a b : ℕ) (f : FlatSheet) → ((flat_at rs a).statement.kind ≡ kind.While → ⊥) → FlatSpan rs a b f → a < b → Single rs a b f
 single rs a b flat_done k s l = let e = s.ends in absurd (omega arith)
 single rs a b (flat_plus r i j c f) k s l =
-    let e = item_at rs a (record { statement = statement_of kind.Plus i j c (suc a); role = r }) s.stand.0 in
-    let n : end_at rs a ≡ suc a = ap (λ (x : Flat). x.statement.end) e in
-    let h = s.ends in
-    record {
-      rest = f;
-      more = omega arith;
-      span = subst (λ (z : ℕ). FlatSpan rs z b f) (sym n) (record { ends = omega arith; stand = s.stand.1 });
-      size = refl;
-      code = λ l.
-          ap (λ (x : Flat). instruction x.role (assigned x.statement.kind x.statement.target x.statement.source x.statement.constant) ∷ lay (suc l) f) (sym e);
-    }
+    single_at rs a b (record { statement = statement_of kind.Plus i j c (suc a); role = r }) (flat_plus r i j c f) f refl s.stand.0 s.stand.1 s.ends refl (λ l. refl)
 single rs a b (flat_minus r i j c f) k s l =
-    let e = item_at rs a (record { statement = statement_of kind.Minus i j c (suc a); role = r }) s.stand.0 in
-    let n : end_at rs a ≡ suc a = ap (λ (x : Flat). x.statement.end) e in
-    let h = s.ends in
-    record {
-      rest = f;
-      more = omega arith;
-      span = subst (λ (z : ℕ). FlatSpan rs z b f) (sym n) (record { ends = omega arith; stand = s.stand.1 });
-      size = refl;
-      code = λ l.
-          ap (λ (x : Flat). instruction x.role (assigned x.statement.kind x.statement.target x.statement.source x.statement.constant) ∷ lay (suc l) f) (sym e);
-    }
+    single_at rs a b (record { statement = statement_of kind.Minus i j c (suc a); role = r }) (flat_minus r i j c f) f refl s.stand.0 s.stand.1 s.ends refl (λ l. refl)
 single rs a b (flat_while r i p f) k s l =
     absurd (k (ap (λ (x : Flat). x.statement.kind) (item_at rs a (record { statement = statement_of kind.While 0 i 0 (suc a + flat_size p); role = r }) s.stand.0)))
 
@@ -157,18 +151,8 @@ looped rs a b (flat_while r i p f) k s l =
 pub appended_room : (x : Instruction) (d e : Draft) → Appended x d e → length (draft_memory e) ≡ length (draft_memory d)
 appended_room x d e h = ap length h.filled ∙ simp length-set
 
-pub lay_room : (x : Instruction) (d e : Draft) (r : Result (Unit {0}) Refusal)
-    → MatchResult r (λ _. Appended x d e) (λ y. (y ≡ CodeFull) × Full d × Unchanged d e) → length (draft_memory e) ≡ length (draft_memory d)
-lay_room x d e (Ok y) h = appended_room x d e h
-lay_room x d e (Err y) h = ap length h.2.filled
-
 pub replaced_room : (i : ℕ) (x : Instruction) (d e : Draft) → Replaced i x d e → length (draft_memory e) ≡ length (draft_memory d)
 replaced_room i x d e h = ap length h.filled ∙ simp length-set
-
-pub struck_room : (d e : Draft) (i : ℕ) (r : Result (Unit {0}) Refusal)
-    → MatchResult r (λ _. OpenAt (laid_code d) i × Replaced i halt d e) (λ y. (y ≡ NotOpen) × (OpenAt (laid_code d) i → ⊥) × Unchanged d e) → length (draft_memory e) ≡ length (draft_memory d)
-struck_room d e i (Ok x) h = replaced_room i halt d e h.1
-struck_room d e i (Err y) h = ap length h.2.filled
 
 -- an assignment is laid
 pub after_single : (rs : List (Placed Flat)) (a b : ℕ) (f : FlatSheet) (d e : Draft) (v : Single rs a b f) → Appended (operation_at rs a) d e → CodeLeft f d v.rest e
@@ -282,9 +266,6 @@ none_left rs n b f (flat_while r i p g) d e h s w = let c = s.ends in absurd (om
 pub all_laid : (rs : List (Placed Flat)) (n b : ℕ) (f : FlatSheet) (d e : Draft) → b ≤ n → StatementLaid rs b f d n e → CodeLaid f d e
 all_laid rs n b f d e h w = none_left rs n b f w.rest d e h w.spans w.left
 
-pub none-laid : (rs : List (Placed Flat)) (n b : ℕ) (f : FlatSheet) (d : Draft) → FlatSpan rs n b f → StatementLaid rs b f d n d
-none-laid rs n b f d s = record { rest = f; spans = s; left = record { counted = refl; filled = refl } }
-
 -- one statement more
 pub more_laid : (rs : List (Placed Flat)) (n m b : ℕ) (f : FlatSheet) (d e k : Draft) (w : StatementLaid rs b f d n e) → StatementLaid rs b w.rest e m k → StatementLaid rs b f d m k
 more_laid rs n m b f d e k w v =
@@ -361,13 +342,6 @@ coded p d d₁ d₂ d₃ none w r h z =
       code = ap (λ (k : List Instruction). take (laid d₃) k) m₃ ∙ take_at c (replicate (length m - length c) halt) (laid d₃) (omega arith);
       filled = m₃;
     }
-
-pub cleared-room : (d e : Draft) → Cleared d e → length (draft_memory e) ≡ length (draft_memory d)
-cleared-room d e z =
-    let a = length-append (laid_code d) (replicate (length (draft_memory d) - laid d) halt) in
-    let b = length-replicate (length (draft_memory d) - laid d) halt in
-    let c = length-filed d.table in
-    ap length z.filled ∙ omega arith
 
 pub flats_no_room : (p : Sheet) (d : Draft) → laid d ≡ 0 → NoRoom (flat p) d → length (draft_memory d) < length (compiled p)
 flats_no_room p d none h = let e = code_length p in omega arith

@@ -1,9 +1,9 @@
 -- What is filed in a table of instructions, and questions about a list of them.
-use Rattle.std.proofs.Common.{◌≡◌, ℕ, zero, suc, ◌+◌, ◌-◌, ◌<◌, ◌≤◌, max, Bool, true, false, T, List, [], ◌∷◌, length, get_or, drop, slice_get, Some, None, Option as Answer, option_copied, MatchOption, sym, refl, ap, ◌∙◌, subst, arith, length-take}
+use Rattle.std.proofs.Common.{◌≡◌, ℕ, zero, suc, ◌-◌, ◌<◌, ◌≤◌, max, Bool, true, false, T, List, [], ◌∷◌, length, get_or, drop, slice_get, Some, None, Option as Answer, option_copied, MatchOption, HoldsAt, sym, refl, ap, ◌∙◌, subst, arith, length-take}
 use mathlib.Core.Option.{Option, some, none}
 use lib.ListN.{get_elem?}
 use Rattle.std.specs.List.{list_all}
-use Rattle.std.proofs.lemmas.List.{get_or-take, at_drop_more, at_drop_all}
+use Rattle.std.proofs.lemmas.List.{get_or-take}
 use denote.Ref.{Bor}
 use Rattle.filing.specs.declared.table.Table.{Table}
 use Rattle.filing.specs.Tables.{memory, count}
@@ -12,7 +12,7 @@ use Rattle.translator.specs.declared.types.Instruction.{Instruction}
 use Rattle.translator.specs.JumpCode.{instruction, instruction_at, fits, AllFit}
 use Rattle.translator.specs.Drafts.{filed}
 use Rattle.translator.specs.Seals.{EndsInHalt, Tells, answer}
-use Rattle.translator.specs.Width.{named, width}
+use Rattle.translator.specs.Width.{width}
 use Rattle.translator.proofs.Fits.{and_true, and_left, and_right}
 use Rattle.translator.proofs.Width.{width_low}
 
@@ -41,10 +41,15 @@ pub elem_is : {A : Type 0} (xs : List A) (i : ℕ) (x d : A) → get_elem? xs i 
 elem_is xs i x d e = let f = elem_get_or xs i d (elem_below xs i x e) in cc
 
 -- the instruction at an index, as a slice answers it
-pub asked : (c : List Instruction) (i : ℕ) → slice_get c i ≡ answer (instruction_at c (suc i))
+asked : (c : List Instruction) (i : ℕ) → slice_get c i ≡ answer (instruction_at c (suc i))
 asked [] i = refl
 asked (x ∷ c) zero = refl
 asked (x ∷ c) (suc i) = asked c i
+
+pub asked_at : (c : List Instruction) (i : ℕ) (o : Answer (Bor Instruction)) → MatchOption o (length c ≤ i) (λ x. (i < length c) × HoldsAt (λ y. x.now ≡ y) c i)
+    → option_copied o ≡ answer (instruction_at c (suc i))
+asked_at c i (Some x) h = sym (ap answer (elem_get_or c i x.now h.0 ∙ ap some (sym (h.1 x.now))))
+asked_at c i None h = sym (ap answer (elem_past c i h))
 
 some_answered : (o : Option Instruction) (x : Instruction) → Some x ≡ answer o → o ≡ some x
 some_answered none x e = let z : ◌≡◌ {A = ℕ} 0 1 = cc in absurd (omega arith)
@@ -97,18 +102,3 @@ Widened c i n = (32 ≤ n) × (max n (width (drop i c)) ≡ width c)
 
 pub wide_none : (c : List Instruction) → Widened c 0 32
 wide_none c = (omega arith, let h = width_low c in omega arith)
-
-pub wide_more : (c : List Instruction) (i n m : ℕ) (x : Instruction) → Widened c i n → i < length c → x ≡ get_or c i x → m ≡ max n (named x.operation) → Widened c (i + 1) m
-wide_more c i n m x h l e r =
-    let s : width (drop i c) ≡ max (named (get_or c i x).operation) (width (drop (i + 1) c)) = at_drop_more width c i x l in
-    let here : named (get_or c i x).operation ≡ named x.operation = ap (λ (z : Instruction). named z.operation) (sym e) in
-    let low = h.0 in
-    let all = h.1 in
-    (omega arith, omega arith)
-
-pub wide_all : (c : List Instruction) (i n : ℕ) → Widened c i n → length c ≤ i → n ≡ width c
-wide_all c i n h past =
-    let s : width (drop i c) ≡ 32 = at_drop_all width c i past in
-    let low = h.0 in
-    let all = h.1 in
-    omega arith

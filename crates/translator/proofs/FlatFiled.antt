@@ -10,13 +10,13 @@ use Rattle.reader.specs.declared.types.Kind.TheVariants as kind
 use Rattle.reader.specs.declared.types.Statement.{Statement}
 use Rattle.reader.specs.Symbols.{placed}
 use Rattle.reader.specs.Records.{statement_of, records_from, with_places, zero_record}
-use Rattle.filing.specs.Tables.{memory, count, lent, overwrite}
+use Rattle.filing.specs.Tables.{memory, count, overwrite}
 use Rattle.translator.specs.declared.types.Role.TheVariants as role
 use Rattle.translator.specs.declared.types.Flat.{Flat}
 use Rattle.translator.specs.Counters.{counters_end}
 use Rattle.translator.specs.Translation.{flat_from, flat, flat_size, placed_flats, flat_records_from, flat_places, flats_with_places}
 use Rattle.translator.specs.Laying.{Stands}
-use Rattle.translator.specs.Flattening.{RecordSpan, flatted, flat_of, InMemory, OneFiled, Same, FlatsFiled, FlatsLeft, StatementFlat, FlatsOver, Steady, LoopOpened, Flattened, zero_placed_flat}
+use Rattle.translator.specs.Flattening.{RecordSpan, flatted, flat_of, OneFiled, FlatsFiled, FlatsLeft, StatementFlat, FlatsOver, LoopOpened, Flattened, zero_placed_flat}
 use Rattle.reader.proofs.Overwriting.{overwrite_append}
 use Rattle.reader.proofs.Records.{length-records}
 use Rattle.translator.proofs.Overwriting.{replaced, take-overwrite}
@@ -33,7 +33,7 @@ end_at rs a = (record_at rs a).item.end
 
 -- lists with places
 
-places_length_more : (xs : List ℕ) (ss : List Statement) → length xs ≡ length ss → length (with_places xs ss) ≡ length ss
+pub places_length_more : (xs : List ℕ) (ss : List Statement) → length xs ≡ length ss → length (with_places xs ss) ≡ length ss
 places_length_more [] [] h = refl
 places_length_more [] (s ∷ ss) h = absurd (omega arith)
 places_length_more (x ∷ xs) [] h = refl
@@ -313,35 +313,6 @@ whiles-at rs a b (while i q p) (x ∷ xs) k s l =
 
 -- memory
 
-pub one_filed_steady : (x : Placed Flat) (t u : Table (Placed Flat)) → OneFiled x t u → lent u ≡ lent t → Steady t u
-one_filed_steady x t u h l =
-    let same : length (memory u) ≡ length (memory t) = ap length h.filled ∙ simp length-set in
-    let c = h.counted in
-    let r = h.room in
-    record { inside = omega arith; room = same; lent = l }
-
-pub same_steady : (t u : Table (Placed Flat)) → InMemory t → Same t u → lent u ≡ lent t → Steady t u
-same_steady t u i h l =
-    let same : length (memory u) ≡ length (memory t) = ap length h.filled in
-    let c = h.counted in
-    let r = i.0 in
-    record { inside = omega arith; room = same; lent = l }
-
-pub steady_self : (t : Table (Placed Flat)) → InMemory t → Steady t t
-steady_self t h = record { inside = h.0; room = refl; lent = refl }
-
-pub steady_more : (t u v : Table (Placed Flat)) → Steady t u → Steady u v → Steady t v
-steady_more t u v h k = record { inside = k.inside; room = k.room ∙ h.room; lent = k.lent ∙ h.lent }
-
-pub in_memory : (t u : Table (Placed Flat)) → InMemory t → Steady t u → InMemory u
-in_memory t u i h = (h.inside, let r = h.room in let s = i.1 in omega arith)
-
-pub amended_steady : (t u : Table (Placed Flat)) (i : ℕ) (x : Placed Flat) → InMemory t → count u ≡ count t → memory u ≡ set (memory t) i x → lent u ≡ lent t → Steady t u
-amended_steady t u i x h c m l =
-    let same : length (memory u) ≡ length (memory t) = ap length m ∙ simp length-set in
-    let r = h.0 in
-    record { inside = omega arith; room = same; lent = l }
-
 -- the flat statement of an assignment
 abbrev pub moved_at : List (Placed Statement) → ℕ → ℕ → Placed Flat
 moved_at rs a n =
@@ -462,9 +433,6 @@ none_left rs n b p (while i r q) xs ys c k t u h s w = let e = s.ends in absurd 
 pub all_filed : (rs : List (Placed Statement)) (n b : ℕ) (p : Sheet) (xs : List ℕ) (c k : ℕ) (t u : Table (Placed Flat)) → b ≤ n → StatementFlat rs b p xs c t n k u → FlatsFiled p xs c t k u
 all_filed rs n b p xs c k t u h w = none_left rs n b p w.rest xs w.places c k t u h w.spans w.left
 
-pub none-filed : (rs : List (Placed Statement)) (n b : ℕ) (p : Sheet) (xs : List ℕ) (c : ℕ) (t : Table (Placed Flat)) → RecordSpan rs n b p xs → StatementFlat rs b p xs c t n c t
-none-filed rs n b p xs c t s = record { rest = p; places = xs; spans = s; left = record { counters = refl; counted = refl; filled = refl } }
-
 pub more_filed : (rs : List (Placed Statement)) (n m b : ℕ) (p : Sheet) (xs : List ℕ) (c k l : ℕ) (t u v : Table (Placed Flat)) (w : StatementFlat rs b p xs c t n k u)
     → StatementFlat rs b w.rest w.places k u m l v → StatementFlat rs b p xs c t m l v
 more_filed rs n m b p xs c k l t u v w z =
@@ -475,9 +443,9 @@ more_filed rs n m b p xs c k l t u v w z =
       left = record { counters = w.left.counters ∙ z.left.counters; counted = w.left.counted ∙ z.left.counted; filled = w.left.filled ∙ z.left.filled };
     }
 
-pub over_later : (rs : List (Placed Statement)) (n b : ℕ) (p : Sheet) (xs : List ℕ) (c k : ℕ) (t u : Table (Placed Flat)) (w : StatementFlat rs b p xs c t n k u) → Steady t u
+pub over_later : (rs : List (Placed Statement)) (n b : ℕ) (p : Sheet) (xs : List ℕ) (c k : ℕ) (t u : Table (Placed Flat)) (w : StatementFlat rs b p xs c t n k u) → length (memory u) ≡ length (memory t)
     → FlatsOver w.rest k u → FlatsOver p c t
-over_later rs n b p xs c k t u w s h = let e = w.left.counted in let r = s.room in omega arith
+over_later rs n b p xs c k t u w r h = let e = w.left.counted in omega arith
 
 pub counters_later : (rs : List (Placed Statement)) (n b : ℕ) (p : Sheet) (xs : List ℕ) (c k : ℕ) (t u : Table (Placed Flat)) (w : StatementFlat rs b p xs c t n k u)
     → counters_end c p ≤ 64 → counters_end k w.rest ≤ 64
@@ -502,24 +470,22 @@ while_body_over rs a b p xs c x t u v h w =
     let same : length (memory u) ≡ length (memory t) = ap length h.filled ∙ simp length-set in
     omega arith
 
-pub loop_body_over : (rs : List (Placed Statement)) (a b : ℕ) (p : Sheet) (xs : List ℕ) (c i : ℕ) (x s : ℕ) (t u : Table (Placed Flat)) (v : Loops rs a b p xs) → LoopOpened x s c t i u → Steady t u
+pub loop_body_over : (rs : List (Placed Statement)) (a b : ℕ) (p : Sheet) (xs : List ℕ) (c i : ℕ) (x s : ℕ) (t u : Table (Placed Flat)) (v : Loops rs a b p xs) → LoopOpened x s c t i u → length (memory u) ≡ length (memory t)
     → FlatsOver v.body (c + 1) u → FlatsOver p c t
-loop_body_over rs a b p xs c i x s t u v h z w =
+loop_body_over rs a b p xs c i x s t u v h r w =
     let one : c + 1 ≡ suc c = omega arith in
     let w' : FlatsOver v.body (suc c) u = subst (λ (k : ℕ). FlatsOver v.body k u) one w in
     let n = v.count c in
     let e = h.counted in
-    let r = z.room in
     omega arith
 
 -- the whole sheet
 
-pub flattened : (rs : List (Placed Statement)) (k : ℕ) (p : Sheet) (xs : List ℕ) (c : ℕ) (t u v : Table (Placed Flat)) → count t ≡ 0 → RecordSpan rs 0 k p xs → FlatsFiled p xs 32 t c u → Steady t u
+pub flattened : (rs : List (Placed Statement)) (k : ℕ) (p : Sheet) (xs : List ℕ) (c : ℕ) (t u v : Table (Placed Flat)) → count t ≡ 0 → RecordSpan rs 0 k p xs → FlatsFiled p xs 32 t c u → length (memory u) ≡ length (memory t)
     → count v ≡ count u → memory v ≡ take (count u) (memory u) ++ replicate (length (memory u) - count u) zero_placed_flat → Flattened p xs (memory t) (count v) (memory v)
-flattened rs k p xs c t u v none s w z e m =
+flattened rs k p xs c t u v none s w room e m =
     let n = w.counted in
-    let in₁ = z.inside in
-    let room = z.room in
+    let in₁ = u.within in
     let F = placed_flats p xs in
     let long : length F ≡ flat_size (flat p) = flatted_long 0 32 p xs s.listed in
     let m₁ : memory u ≡ overwrite (memory t) 0 F = w.filled ∙ ap (λ (q : ℕ). overwrite (memory t) q (flatted q 32 p xs)) none in

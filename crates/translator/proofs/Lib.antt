@@ -13,6 +13,7 @@ pub mod Filing
 pub mod Overwriting
 pub mod CodeLaid
 pub mod FlatFiled
+pub mod Results
 pub mod SealedSheets
 pub mod Loaded
 pub mod OneLoad

@@ -1,6 +1,7 @@
 -- What a load fills and refuses.
-use Rattle.std.proofs.Common.{◌≡◌, ℕ, suc, ◌-◌, ◌<◌, ◌≤◌, List, [], ◌∷◌, ◌++◌, map, length, replicate, Ok, Err, Result, IsErrAnd, MatchResult, sym, refl, ap, ◌∙◌, subst, arith, length-append}
+use Rattle.std.proofs.Common.{◌≡◌, ℕ, suc, ◌-◌, ◌<◌, ◌≤◌, List, [], ◌∷◌, ◌++◌, map, length, take, replicate, Ok, Err, Result, IsErrAnd, MatchResult, sym, refl, ap, ◌∙◌, subst, arith, length-append}
 use lib.ListN.{length-replicate}
+use Rattle.std.proofs.lemmas.List.{take_at}
 use Rattle.reader.specs.declared.types.Placed.{Placed}
 use Rattle.reader.specs.declared.types.Refusal.{Refusal}
 use Rattle.reader.specs.declared.types.Refusal.TheVariants.{FlatFull, CodeFull}
@@ -9,7 +10,7 @@ use Rattle.reader.specs.Sheet.{Sheet, size, Within}
 use Rattle.reader.specs.Symbols.{placed, heads}
 use Rattle.reader.specs.Records.{records, with_places, cleared}
 use Rattle.reader.specs.Reading.{ReadAnswers, accepted, overlong, faulty, tree_full}
-use Rattle.reader.proofs.Records.{counted}
+use Rattle.reader.proofs.Records.{counted, length-records}
 use Rattle.translator.specs.declared.draft.Draft.{Draft}
 use Rattle.translator.specs.declared.draft.SealedCode.{SealedCode}
 use Rattle.translator.specs.declared.types.Flat.{Flat}
@@ -17,14 +18,15 @@ use Rattle.translator.specs.declared.types.Instruction.{Instruction}
 use Rattle.translator.specs.declared.types.Stage.TheVariants.{Read, Flatten, Lay}
 use Rattle.translator.specs.declared.types.Fault.{Fault}
 use Rattle.translator.specs.JumpCode.{halt}
-use Rattle.translator.specs.Translation.{flat, flat_size, compiled, flat_places, flat_records, flats_with_places}
+use Rattle.translator.specs.Translation.{flat, flat_size, compiled, flat_places, flat_records, flats_with_places, placed_flats}
 use Rattle.translator.specs.Width.{width}
 use Rattle.translator.specs.Drafts.{draft_memory, laid_code, filed, OpenAt}
 use Rattle.translator.specs.Seals.{sealed_width, Sound, SealRefuses, jump_open, bad_draft}
 use Rattle.translator.specs.Laying.{Stands, FlatSpan, Coded}
 use Rattle.translator.specs.Flattening.{RecordSpan, Flattened}
 use Rattle.translator.specs.Loading.{fault, cleared_flats, SpelledSheet, Prepared, Loaded, LoadRefuses, unread, unflattened, unlaid}
-use Rattle.translator.proofs.FlatFiled.{same_long}
+use Rattle.translator.proofs.Results.{mapped}
+use Rattle.translator.proofs.FlatFiled.{places_length_more, same_long, flatted_long}
 use Rattle.translator.proofs.SealedSheets.{sheet_sealed}
 use Rattle.translator.proofs.Width.{code_width}
 
@@ -37,13 +39,6 @@ pub record ReadSheet (text : List ℕ) (r n : ℕ) (m : List (Placed Statement))
   pub counted : n ≡ size sheet
   pub room : size sheet ≤ r
   pub filled : m ≡ with_places places (records sheet) ++ cleared (r - size sheet)
-
--- what `map_err` makes of a result, where F is what its closure gives
-pub mapped : {A B C : Type 0} (P P' : A → Type 0) (Q : B → Type 0) (Q' : C → Type 0) (r : Result A B) (s : Result A C) (F : B → C → Type 0)
-    → MatchResult r P Q → MatchResult r (λ x. s ≡ Ok x) (λ e. IsErrAnd s (F e)) → ((x : A) → P x → P' x) → ((e : B) (y : C) → Q e → F e y → Q' y) → MatchResult s P' Q'
-mapped P P' Q Q' (Ok x) s F h m p q = subst (λ z. MatchResult z P' Q') (sym m) (p x h)
-mapped P P' Q Q' (Err e) (Ok y) F h m p q = absurd m
-mapped P P' Q Q' (Err e) (Err y) F h m p q = q e y h m
 
 read_said : (text : List ℕ) (room : ℕ) (r : Result ℕ (Placed Refusal)) (m : List (Placed Statement)) → ReadAnswers text room r m
     → MatchResult r (λ n. ReadSheet text room n m) (λ e. ReadAnswers text room (Err e) (cleared room))
@@ -72,22 +67,23 @@ stands_shift : {A : Type 0} (y : A) (ys : List A) (a : ℕ) (xs : List A) → St
 stands_shift y ys a [] h = tt
 stands_shift y ys a (x ∷ xs) h = (h.0, stands_shift y ys (suc a) xs h.1)
 
-stands_front : {A : Type 0} (xs ys : List A) → Stands (xs ++ ys) 0 xs
-stands_front [] ys = tt
-stands_front (x ∷ xs) ys = (refl, stands_shift x (xs ++ ys) 0 xs (stands_front xs ys))
+stands_whole : {A : Type 0} (xs : List A) → Stands xs 0 xs
+stands_whole [] = tt
+stands_whole (x ∷ xs) = (refl, stands_shift x xs 0 xs (stands_whole xs))
 
 listed : (text : List ℕ) (p : Sheet) (xs : List ℕ) → SpelledSheet text p xs → length xs ≡ size p
 listed text p xs s = ap length s.places ∙ (counted s.symbols p s.sheeted.spells).0
 
-pub read_span : (text : List ℕ) (room n : ℕ) (m : List (Placed Statement)) (w : ReadSheet text room n m) → RecordSpan m 0 n w.sheet w.places
+pub read_span : (text : List ℕ) (room n : ℕ) (m : List (Placed Statement)) (w : ReadSheet text room n m) → RecordSpan (take n m) 0 (length (take n m)) w.sheet w.places
 read_span text room n m w =
-    let e = w.counted in
-    record {
-      ends = omega arith;
-      listed = listed text w.sheet w.places w.spelled;
-      stand = subst (λ (z : List (Placed Statement)). Stands z 0 (with_places w.places (records w.sheet))) (sym w.filled)
-          (stands_front (with_places w.places (records w.sheet)) (cleared (room - size w.sheet)));
-    }
+    let F = with_places w.places (records w.sheet) in
+    let many = listed text w.sheet w.places w.spelled in
+    let all = length-records 0 w.sheet in
+    let long : length F ≡ size w.sheet = places_length_more w.places (records w.sheet) (omega arith) ∙ all in
+    let c = w.counted in
+    let front : take n m ≡ F = ap (take n) w.filled ∙ take_at F (cleared (room - size w.sheet)) n (omega arith) in
+    let e = ap length front in
+    record { ends = omega arith; listed = many; stand = subst (λ (z : List (Placed Statement)). Stands z 0 F) (sym front) (stands_whole F) }
 
 pub prepared : (text : List ℕ) (room n k : ℕ) (m : List (Placed Statement)) (f g : List (Placed Flat)) (w : ReadSheet text room n m) → Flattened w.sheet w.places f k g
     → Prepared text room (length f) k m g
@@ -98,21 +94,25 @@ pub not_flattened : (text : List ℕ) (room n f c : ℕ) (x : Refusal) (m : List
     → LoadRefuses text room f c (fault Flatten (placed 0 x))
 not_flattened text room n f c x m w e h = subst (λ (z : Refusal). LoadRefuses text room f c (fault Flatten (placed 0 z))) (sym e) (unflattened w.spelled w.room h)
 
-items_front : (xs : List ℕ) (fs : List Flat) (z : List (Placed Flat)) → length xs ≡ length fs → map (λ r. r.item) (flats_with_places xs fs ++ z) ≡ fs ++ map (λ r. r.item) z
-items_front [] [] z h = refl
-items_front [] (f ∷ fs) z h = absurd (omega arith)
-items_front (x ∷ xs) [] z h = absurd (omega arith)
-items_front (x ∷ xs) (f ∷ fs) z h = ap (λ (r : List Flat). f ∷ r) (items_front xs fs z (omega arith))
+items_all : (xs : List ℕ) (fs : List Flat) → length xs ≡ length fs → map (λ r. r.item) (flats_with_places xs fs) ≡ fs
+items_all [] [] h = refl
+items_all [] (f ∷ fs) h = absurd (omega arith)
+items_all (x ∷ xs) [] h = absurd (omega arith)
+items_all (x ∷ xs) (f ∷ fs) h = ap (λ (r : List Flat). f ∷ r) (items_all xs fs (omega arith))
 
-pub flat-span : (text : List ℕ) (r f n : ℕ) (rs : List (Placed Statement)) (fs : List (Placed Flat)) (w : Prepared text r f n rs fs) → FlatSpan fs 0 n (flat w.sheet)
+pub flat-span : (text : List ℕ) (r f n : ℕ) (rs : List (Placed Statement)) (fs : List (Placed Flat)) (w : Prepared text r f n rs fs) → FlatSpan (take n fs) 0 (length (take n fs)) (flat w.sheet)
 flat-span text r f n rs fs w =
     let p = w.sheet in
     let xs = w.places in
-    let z = cleared_flats (f - flat_size (flat p)) in
-    let e = w.counted in
-    let is : map (λ y. y.item) fs ≡ flat_records (flat p) ++ map (λ y. y.item) z =
-    ap (map (λ y. y.item)) w.flats ∙ items_front (flat_places p xs) (flat_records (flat p)) z (same_long 0 32 p xs (listed text p xs w.spelled)) in
-    record { ends = omega arith; stand = subst (λ (q : List Flat). Stands q 0 (flat_records (flat p))) (sym is) (stands_front (flat_records (flat p)) (map (λ y. y.item) z)) }
+    let many = listed text p xs w.spelled in
+    let F = placed_flats p xs in
+    let long : length F ≡ flat_size (flat p) = flatted_long 0 32 p xs many in
+    let c = w.counted in
+    let front : take n fs ≡ F = ap (take n) w.flats ∙ take_at F (cleared_flats (f - flat_size (flat p))) n (omega arith) in
+    let e = ap length front in
+    let is : map (λ y. y.item) (take n fs) ≡ flat_records (flat p) =
+    ap (map (λ y. y.item)) front ∙ items_all (flat_places p xs) (flat_records (flat p)) (same_long 0 32 p xs many) in
+    record { ends = omega arith; stand = subst (λ (q : List Flat). Stands q 0 (flat_records (flat p))) (sym is) (stands_whole (flat_records (flat p))) }
 
 pub not-laid : (text : List ℕ) (r f n c : ℕ) (x : Refusal) (rs : List (Placed Statement)) (fs : List (Placed Flat)) (w : Prepared text r f n rs fs) → x ≡ CodeFull → c < length (compiled w.sheet)
     → LoadRefuses text r f c (fault Lay (placed 0 x))

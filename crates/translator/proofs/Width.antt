@@ -28,6 +28,21 @@ record Needs (c k n : ℕ) : Type 0 where
   high : n ≤ c + k
   hit : 1 ≤ k → c + k ≤ n
 
+-- f LOOPs of its own, then those of a body, and those behind it
+nest : (c f m a b q k x y w : ℕ) → m ≡ c + f → q ≡ m + a → k ≡ f + a + b → Needs m a x → Needs q b y → w ≤ max m (max x y) → x ≤ w → y ≤ w → (1 ≤ f → m ≤ w) → Needs c k w
+nest c f m a b q k x y w em eq ek nx ny up hx hy own =
+    let tx = nx.high in
+    let ty = ny.high in
+    record {
+      high = omega arith;
+      hit = λ h.
+          ⊎_elim
+          (λ (lt : 0 < b). let z = ny.hit lt in omega arith)
+          (λ (le : b ≤ 0).
+          ⊎_elim (λ (lt : 0 < a). let z = nx.hit lt in omega arith) (λ (le' : a ≤ 0). let z = own (omega arith) in omega arith) (cases_lt 0 a))
+          (cases_lt 0 b);
+    }
+
 needs : (p : Sheet) (c l : ℕ) → 32 ≤ c → Fit p → Needs c (loops p) (width (lay l (flat_from c p)))
 needs done c l hc g = record { high = omega arith; hit = λ h. absurd (omega arith) }
 needs (plus i j n p) c l hc g =
@@ -51,17 +66,9 @@ needs (loop i b p) c l hc g =
     let rp = needs p (behind_loop c b) lp (omega arith) g.2 in
     let join = width_append X (instruction Jump (Goto (suc l)) ∷ Y) in
     let hi = g.0 in
-    let hb = rb.high in
-    let hp = rp.high in
     let low = width_low Y in
-    record {
-      high = omega arith;
-      hit = λ h.
-          ⊎_elim
-          (λ (lt : 0 < loops p). let q = rp.hit lt in omega arith)
-          (λ (le : loops p ≤ 0). ⊎_elim (λ (lt : 0 < loops b). let q = rb.hit lt in omega arith) (λ (le' : loops b ≤ 0). omega arith) (cases_lt 0 (loops b)))
-          (cases_lt 0 (loops p));
-    }
+    nest c 1 (inside_loop c) (loops b) (loops p) (behind_loop c b) (loops (loop i b p)) (width X) (width Y) (width (lay l (flat_from c (loop i b p)))) (omega arith) refl (omega arith) rb rp (omega arith)
+    (omega arith) (omega arith) (λ h. omega arith)
 needs (while i b p) c l hc g =
     let X = lay (suc l) (flat_from c b) in
     let lp = suc (suc l + code_size (flat_from c b)) in
@@ -70,17 +77,9 @@ needs (while i b p) c l hc g =
     let rp = needs p (behind_while c b) lp (omega arith) g.2 in
     let join = width_append X (instruction Jump (Goto l) ∷ Y) in
     let hi = g.0 in
-    let hb = rb.high in
-    let hp = rp.high in
     let low = width_low Y in
-    record {
-      high = omega arith;
-      hit = λ h.
-          ⊎_elim
-          (λ (lt : 0 < loops p). let q = rp.hit lt in omega arith)
-          (λ (le : loops p ≤ 0). ⊎_elim (λ (lt : 0 < loops b). let q = rb.hit lt in omega arith) (λ (le' : loops b ≤ 0). absurd (omega arith)) (cases_lt 0 (loops b)))
-          (cases_lt 0 (loops p));
-    }
+    nest c 0 c (loops b) (loops p) (behind_while c b) (loops (while i b p)) (width X) (width Y) (width (lay l (flat_from c (while i b p)))) (omega arith) refl (omega arith) rb rp (omega arith)
+    (omega arith) (omega arith) (λ h. absurd (omega arith))
 
 pub code_width : CodeWidthIsSheetWidth
 code_width p fit =

@@ -1,5 +1,5 @@
 -- Filing the flat statements of a sheet whose records are given.
-use Rattle.std.specs.Prelude.{◌≡◌, ℕ, suc, ◌+◌, ◌-◌, ◌^◌, ◌<◌, ◌≤◌, List, ◌++◌, length, replicate, slice_set}
+use Rattle.std.specs.Prelude.{◌≡◌, ℕ, suc, ◌+◌, ◌-◌, ◌<◌, ◌≤◌, List, ◌++◌, length, replicate, slice_set}
 use Rattle.reader.specs.Sheet.{Sheet, size}
 use Rattle.filing.specs.declared.table.Table.{Table}
 use Rattle.reader.specs.declared.types.Placed.{Placed}
@@ -7,7 +7,7 @@ use Rattle.reader.specs.declared.types.Statement.{Statement}
 use Rattle.reader.specs.declared.types.Kind.TheVariants.{Plus, Minus, While}
 use Rattle.reader.specs.Symbols.{placed}
 use Rattle.reader.specs.Records.{statement_of, records_from, with_places}
-use Rattle.filing.specs.Tables.{memory, count, lent, overwrite}
+use Rattle.filing.specs.Tables.{memory, count, overwrite}
 use Rattle.translator.specs.declared.types.Role.{Role}
 use Rattle.translator.specs.declared.types.Role.TheVariants.{Entry, Test, Down}
 use Rattle.translator.specs.declared.types.Flat.{Flat}
@@ -28,19 +28,11 @@ flatted n c p xs = flats_with_places (flat_places p xs) (flat_records_from n (fl
 abbrev pub flat_of : Statement → Role → Flat
 flat_of s r = record { statement = s; role = r }
 
--- what is filed lies in the memory, which is no larger than memory can be
-abbrev pub InMemory : Table (Placed Flat) → Type 0
-InMemory t = (count t ≤ length (memory t)) × (length (memory t) < 2 ^ 60)
-
 -- the table t became u: one element more
 pub record OneFiled (x : Placed Flat) (t u : Table (Placed Flat)) : Type 0 where
   pub room : count t < length (memory t)
   pub counted : count u ≡ suc (count t)
   pub filled : memory u ≡ slice_set (memory t) (count t) x
-
-pub record Same (t u : Table (Placed Flat)) : Type 0 where
-  pub counted : count u ≡ count t
-  pub filled : memory u ≡ memory t
 
 -- the table t became u: the flat statements of p are filed, and the memory behind them is as it was
 pub record FlatsFiled (p : Sheet) (xs : List ℕ) (c : ℕ) (t : Table (Placed Flat)) (k : ℕ) (u : Table (Placed Flat)) : Type 0 where
@@ -64,12 +56,6 @@ pub record StatementFlat (rs : List (Placed Statement)) (b : ℕ) (p : Sheet) (x
 -- the memory has no room for the flat statements of p too
 abbrev pub FlatsOver : Sheet → ℕ → Table (Placed Flat) → Type 0
 FlatsOver p c t = length (memory t) < count t + flat_size (flat_from c p)
-
--- the memory stays the same one, and what is filed lies in it
-pub record Steady (t u : Table (Placed Flat)) : Type 0 where
-  pub inside : count u ≤ length (memory u)
-  pub room : length (memory u) ≡ length (memory t)
-  pub lent : lent u ≡ lent t
 
 -- the table t became u: entry, test and countdown of a LOOP are filed; the test, at index i, has no end yet
 pub record LoopOpened (x s c : ℕ) (t : Table (Placed Flat)) (i : ℕ) (u : Table (Placed Flat)) : Type 0 where

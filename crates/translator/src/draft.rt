@@ -41,20 +41,6 @@ pub const HALT: Instruction = Instruction {
     role: Role::Halt,
 };
 
-impl Instruction {
-    ghost use Rattle.translator.specs.Drafts.{TestOf};
-
-    // The source and role of an open test.
-    fn as_open_test(self) -> Option<(usize, Role)>
-        ensures { TestOf self result }
-    {
-        match self.operation {
-            Operation::If { source, label: 0 } => Some((source, self.role)),
-            _ => None,
-        }
-    }
-}
-
 impl<'a> Draft<'a> {
     ghost use Rattle.std.specs.Prelude.{◌≡◌, ℕ, suc, ◌^◌, ◌<◌, IfOk, MatchResult};
     ghost use Rattle.reader.specs.declared.types.Refusal.TheVariants.{CodeFull};

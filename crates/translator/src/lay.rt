@@ -114,16 +114,16 @@ fn lay_flats(
 }
 
 // Lays the code of a whole sheet, with HALT, into an empty draft, and clears the memory behind it.
-pub(crate) fn lay_code(flats: &[Placed<Flat>], to: usize, draft: &mut Draft) -> Result<(), Refusal>
-    requires flats { (p : Sheet) × FlatSpan flats.now 0 to (flat p) }
+pub(crate) fn lay_code(flats: &[Placed<Flat>], draft: &mut Draft) -> Result<(), Refusal>
+    requires flats { (p : Sheet) × FlatSpan flats.now 0 (length flats.now) (flat p) }
     requires empty { laid draft.old ≡ 0 }
     ensures laid { MatchResult result
-        (λ _. ((p : Sheet) → FlatSpan flats.now 0 to (flat p) → Coded p draft.old draft.new))
-        (λ e. (e ≡ CodeFull) × ((p : Sheet) → FlatSpan flats.now 0 to (flat p) → length (draft_memory draft.old) < length (compiled p))) }
+        (λ _. ((p : Sheet) → FlatSpan flats.now 0 (length flats.now) (flat p) → Coded p draft.old draft.new))
+        (λ e. (e ≡ CodeFull) × ((p : Sheet) → FlatSpan flats.now 0 (length flats.now) (flat p) → length (draft_memory draft.old) < length (compiled p))) }
     ensures room { length (draft_memory draft.new) ≡ length (draft_memory draft.old) }
     ensures lent { draft_lent draft.new ≡ draft_lent draft.old }
 {
-    lay_flats(flats, 0, to, draft)?;
+    lay_flats(flats, 0, flats.len(), draft)?;
     draft.lay(HALT)?;
     draft.clear_rest();
     Ok(())

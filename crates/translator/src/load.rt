@@ -52,7 +52,7 @@ fn prepare(
         stage: Stage::Read,
         cause,
     })?;
-    flatten(records, statements, flats).map_err(|item| unplaced(Stage::Flatten, item))
+    flatten(&records[..statements], flats).map_err(|item| unplaced(Stage::Flatten, item))
 }
 
 // Lays the code of the sheet that the text spells into an empty draft.
@@ -70,7 +70,7 @@ fn lay_sheet(
     ensures lent { draft_lent draft.new ≡ draft_lent draft.old }
 {
     let count = prepare(text, records, flats)?;
-    lay_code(flats, count, draft).map_err(|item| unplaced(Stage::Lay, item))
+    lay_code(&flats[..count], draft).map_err(|item| unplaced(Stage::Lay, item))
 }
 
 // Refuses with a fault, and clears all three memories.

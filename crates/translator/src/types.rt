@@ -84,6 +84,20 @@ pub struct Instruction {
     pub role: Role,
 }
 
+impl Instruction {
+    ghost use Rattle.translator.specs.Drafts.{TestOf};
+
+    // The source and role, if it is a test without a label.
+    pub(crate) fn as_open_test(self) -> Option<(usize, Role)>
+        ensures { TestOf self result }
+    {
+        match self.operation {
+            Operation::If { source, label: 0 } => Some((source, self.role)),
+            _ => None,
+        }
+    }
+}
+
 // A flat statement: no LOOP, and an end that counts flat statements.
 #[derive(Clone, Copy, Debug, PartialEq, Eq)]
 pub struct Flat {

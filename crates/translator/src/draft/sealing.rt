@@ -34,7 +34,8 @@ fn ends_in_halt(code: &[Instruction]) -> bool
         .is_some_and(|last| last.operation == Operation::Halt)
 }
 
-// N: one above the highest register named, and at least 32.
+// N: one above the highest register named, and at least 32. A loop, since the closure of a chain would have to be
+// callable at any instruction, and `named_registers` asks that it fits.
 fn registers_named(code: &[Instruction]) -> usize
     requires { AllFit 64 code.now }
     ensures { result ≡ width code.now }

@@ -1,9 +1,10 @@
 use Rattle.std.proofs.Common.{◌<◌, ◌≤◌, length, ap, ◌∙◌, subst, arith, rules}
-use Rattle.std.proofs.lemmas.Result.{MatchResult-weaker, err_from_is_err_and}
+use Rattle.std.proofs.lemmas.Result.{MatchResult-weaker}
 use Rattle.translator.specs.declared.types.Operation.TheVariants.{If}
 use Rattle.translator.specs.JumpCode.{instruction}
 use Rattle.translator.specs.declared.types.Operation.{Operation}
 use Rattle.translator.specs.Drafts.{Appended}
+use Rattle.translator.proofs.Results.{handed_up}
 use Rattle.translator.proofs.CodeLaid.{flat_at, end_at, operation_at, span_below, end_within, single, looped, appended_room, after_single, past_while, still_open, all_laid, more_laid, no_room_later, single_no_room, test_no_room, round_no_room, jump_no_room}
 use Rattle.translator.proofs.lay.+lay_flats_lay_round_lay_statement.Goals as goal
 
@@ -18,8 +19,7 @@ lay_flats-lay_statement-requires t c =
 pub lay_flats-returns-in_err-at-clause-laid : goal.lay_flats-returns-in_err-at-clause-laid
 lay_flats-returns-in_err-at-clause-laid t c =
     let E = c.in_err-at.ensures.laid in
-    let p = err_from_is_err_and c.from_residual.result c.from_residual.ensures.1 in
-    rw (p.1, p.2) (
+    handed_up _ _ c.from_residual.result c.from_residual.ensures.1 (
       E.0,
       λ f s.
           let w = c.loop-at.invariant.1 f s in
@@ -60,8 +60,7 @@ lay_statement-bounds-flats-at t c = span_below c.args.flats.now c.args.at c.requ
 pub lay_statement-returns-in_err-jump-in-While-clause-laid : goal.lay_statement-returns-in_err-jump-in-While-clause-laid
 lay_statement-returns-in_err-jump-in-While-clause-laid t c =
     let E = c.in_err-jump-in-While.ensures.laid in
-    let p = err_from_is_err_and c.from_residual.result c.from_residual.ensures.1 in
-    rw (p.1, p.2) (E.0, λ b f s l. test_no_room c.args.flats.now c.args.at b f c.args.draft.now (looped c.args.flats.now c.args.at b f c.in-While.is s l) E.1)
+    handed_up _ _ c.from_residual.result c.from_residual.ensures.1 (E.0, λ b f s l. test_no_room c.args.flats.now c.args.at b f c.args.draft.now (looped c.args.flats.now c.args.at b f c.in-While.is s l) E.1)
 
 pub lay_statement-lay_round-requires : goal.lay_statement-lay_round-requires
 lay_statement-lay_round-requires t c =
@@ -109,9 +108,8 @@ lay_statement-returns-in_ok-close-in-Ok-clause-laid t c =
 pub lay_statement-returns-in_err-lay-in_default : goal.lay_statement-returns-in_err-lay-in_default
 lay_statement-returns-in_err-lay-in_default t c =
     let E = c.in_err-lay-in_default.ensures in
-    let p = err_from_is_err_and c.from_residual-in_err-lay-in_default.result c.from_residual-in_err-lay-in_default.ensures.1 in
     record {
-      laid = rw (p.1, p.2) (
+      laid = handed_up _ _ c.from_residual-in_err-lay-in_default.result c.from_residual-in_err-lay-in_default.ensures.1 (
         E.laid.0,
         λ b f s l. single_no_room c.args.flats.now c.args.at b f c.args.draft.now (single c.args.flats.now c.args.at b f c.in_default.not-While s l) E.laid.1,
       );

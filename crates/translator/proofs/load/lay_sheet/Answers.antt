@@ -3,7 +3,8 @@ use Rattle.reader.specs.Symbols.{placed}
 use Rattle.translator.specs.declared.types.Stage.TheVariants.{Lay}
 use Rattle.translator.specs.Drafts.{draft_memory}
 use Rattle.translator.specs.Loading.{fault, LoadRefuses}
-use Rattle.translator.proofs.Loaded.{mapped, flat-span, not-laid}
+use Rattle.translator.proofs.Results.{mapped}
+use Rattle.translator.proofs.Loaded.{flat-span, not-laid}
 use Rattle.translator.proofs.load.lay_sheet.Goals as goal
 
 pub lay_code-requires-clause-flats : goal.lay_code-requires-clause-flats
