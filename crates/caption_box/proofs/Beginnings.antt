@@ -1,5 +1,5 @@
 -- The beginning of a rehearsal: what start and rewind make of a seating.
-use Rattle.std.proofs.Common.{◌≡◌, ℕ, Bool, true, false, cond, ltb, List, length, Ok, Err, Result, MatchResult, sym, refl, ap, ◌∙◌, subst, inr, arith}
+use Rattle.std.proofs.Common.{◌≡◌, ℕ, Bool, true, false, cond, ltb, List, [], length, Ok, Err, Result, MatchResult, sym, refl, ap, ◌∙◌, subst, inr, arith}
 use Rattle.reader.specs.declared.types.Refusal.{Refusal}
 use Rattle.reader.specs.declared.types.Refusal.TheVariants.{SmallStore, ManyInputs, OverTop}
 use Rattle.reader.specs.Sheet.{Sheet}
@@ -47,8 +47,8 @@ none-counted n e = subst Counted (sym e) (record { steps = omega arith; entered 
 
 -- before the first statement, with clear tallies, on numbers that were seated with n registers
 module _ (s : Rehearsal) (first : AtFirst s) where
-  position_is : s.position ≡ position_of 0 0 s.position.levels
-  position_is i = position_of (first.index i) (first.depth i) s.position.levels
+  position_is : s.position ≡ position_of 0 []
+  position_is i = position_of (first.index i) (first.levels i)
 
   rest_is : rest_of (records_of s) s.position ≡ whole_of (records_of s)
   unfolding rest_in
@@ -58,7 +58,7 @@ module _ (s : Rehearsal) (first : AtFirst s) where
   first_rehearsed h =
       record {
         sheet = h;
-        stands = subst (Stands (records_of s)) (sym position_is) (begins (records_of s) h s.position.levels first.levels).0;
+        stands = subst (Stands (records_of s)) (sym position_is) (begins (records_of s) h).0;
         counted = none-counted (written_counts s.tallies) first.clear;
       }
 

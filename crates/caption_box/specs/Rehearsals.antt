@@ -1,5 +1,5 @@
 -- A rehearsal over the numbers of a store, as a scene; and what a start and a step of one come to.
-use Rattle.std.specs.Prelude.{◌≡◌, ℕ, ◌⊎◌, List, length, Ok, Err}
+use Rattle.std.specs.Prelude.{◌≡◌, ℕ, ◌⊎◌, List, [], length, Ok, Err}
 use Rattle.reader.specs.declared.types.Refusal.{Refusal}
 use Rattle.reader.specs.declared.types.Refusal.TheVariants.{NoSheet}
 use Rattle.reader.specs.Sheet.{Sheet}
@@ -13,7 +13,7 @@ use Rattle.caption_box.specs.declared.rehearsal.Rehearsal.{Rehearsal}
 use Rattle.caption_box.specs.declared.rehearsal.WrittenTallies.{WrittenTallies}
 use Rattle.caption_box.specs.Calls.{state_of, onward, seats}
 use Rattle.caption_box.specs.Tallies.{tally}
-use Rattle.caption_box.specs.Rests.{Recs, rest_of, Stands}
+use Rattle.caption_box.specs.Rests.{Recs, levels_of, rest_of, Stands}
 use Rattle.caption_box.specs.WrittenSteps.{Counted}
 use Rattle.caption_box.specs.WrittenCalls.{WrittenScene, written_scene, written_beginning}
 
@@ -43,8 +43,7 @@ written_scene_of s ν top = written_scene (whole_of (records_of s)) top (run_of 
 -- before the first statement, with no open level and clear tallies
 pub record AtFirst (s : Rehearsal) : Type 0 where
   pub index : s.position.at ≡ 0
-  pub depth : s.position.depth ≡ 0
-  pub levels : length s.position.levels ≡ 8
+  pub levels : levels_of s.position ≡ []
   pub clear : written_counts s.tallies ≡ no_counts
 
 -- what start gives and every call keeps: the records are those of a sheet, the position stands in it, and the tallies are as bounded as the written steps

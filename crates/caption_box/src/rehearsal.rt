@@ -4,21 +4,21 @@ mod running;
 mod stepping;
 mod walking;
 
+use arrayvec::ArrayVec;
 use reader::types::{Placed, Statement};
 
 // An open level: the index of its LOOP or WHILE, and for a LOOP the rounds left after the present one.
-#[derive(Clone, Copy)]
+#[derive(Clone, Copy, Default)]
 struct Level {
     head: usize,
     left: u32,
 }
 
 // Where a rehearsal stands: the index of the next statement, and the open levels, the outermost first.
-#[derive(Clone, Copy)]
+#[derive(Drop)]
 struct Position {
     at: usize,
-    depth: usize,
-    levels: [Level; 8],
+    levels: ArrayVec<Level, 8>,
 }
 
 // The four tallies of a rehearsal. LOOP rounds grow by whole register values.

@@ -14,8 +14,8 @@ returns-then-eq g c =
       most = c.raise.ensures.most;
       exact = step_done c.args.self.now (g.S.Store.limit c.args.store.now) ν c.record_at-statement.result c.fate-state.result
           c.record_at-statement.ensures c.fate-state.ensures time (g.S.Store.numbers c.perform-found.new.store)
-          c.perform-found.result c.raise.new.self c.moved-self.result c.perform-found.ensures.stored c.perform-found.ensures.found v
-          c.requires c.raise.ensures.counts c.moved-self.ensures;
+          c.perform-found.result c.raise.new.self c.go_on.new.self c.perform-found.ensures.stored c.perform-found.ensures.found v
+          c.requires c.raise.ensures.counts c.go_on.ensures;
     }
 
 pub returns-else-eq : goal.returns-else-eq
