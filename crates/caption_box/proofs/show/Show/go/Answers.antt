@@ -1,10 +1,7 @@
-use Rattle.std.proofs.Common.{refl, ◌∙◌, arith, rules}
+use Rattle.std.proofs.Common.{◌∙◌, arith, rules}
 use Rattle.caption_box.specs.Shows.{code_setting}
-use Rattle.caption_box.proofs.Going.{going_none, going_more, gone_stopped, gone_all}
+use Rattle.caption_box.proofs.Going.{going_more, gone_stopped, gone_all}
 use Rattle.caption_box.proofs.show.Show.go.Goals as goal
-
-pub loop-steps-init : goal.loop-steps-init
-loop-steps-init g c = (refl, refl, going_none _ _)
 
 pub loop-steps-preserved : goal.loop-steps-preserved
 loop-steps-preserved g c =
