@@ -1,5 +1,5 @@
 -- The walk out of the bodies that end with a statement, as the code takes it.
-use Rattle.std.proofs.Common.{◌≡◌, ℕ, ◌-◌, ◌<◌, ◌≤◌, List, [], ◌∷◌, ◌++◌, length, Option, sym, refl, ap, ◌∙◌, subst, arith}
+use Rattle.std.proofs.Common.{◌≡◌, ℕ, ◌-◌, ◌<◌, ◌≤◌, List, [], ◌∷◌, ◌++◌, length, Option, sym, ap, ◌∙◌, subst, arith}
 use Rattle.std.specs.declared.option.Option.TheVariants as option
 use Rattle.std.proofs.lemmas.List.{get_or_past}
 use Rattle.reader.specs.declared.types.Statement.{Statement}
@@ -21,9 +21,6 @@ record_past rs i h = ap (λ r. r.item) (sym (get_or_past rs i zero_record h))
 -- the walk behind the statement of p has come to the statement of q, which ends with its body
 abbrev pub Leaving : Recs → Position → Position → Type 0
 Leaving rs p q = IsSheet rs → Held rs p → Held rs q × (rest_behind rs q ≡ rest_behind rs p)
-
-pub leaving_none : (rs : Recs) (p : Position) → Leaving rs p p
-leaving_none rs p h w = (w, refl)
 
 -- e is the end of the innermost body, and o what the next-sibling question told of it
 module _ (rs : Recs) (p q : Position) (walk : Leaving rs p q) (e : ℕ) (o : Option ℕ) (ee : e ≡ body_end rs (levels_of q) (depth_of q)) (eo : o ≡ sibling rs q.at e) where

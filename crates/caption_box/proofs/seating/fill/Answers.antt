@@ -1,4 +1,4 @@
-use Rattle.std.proofs.Common.{◌≡◌, ◌≤◌, ◌∙◌, arith}
+use Rattle.std.proofs.Common.{◌≤◌, ◌∙◌, arith}
 use Rattle.caption_box.specs.Seats.{input_at}
 use Rattle.caption_box.proofs.Seats.{filled_more, input_low}
 use Rattle.caption_box.proofs.seating.fill.Goals as goal
