@@ -14,8 +14,9 @@ struct Level {
     left: u32,
 }
 
-// Where a rehearsal stands: the index of the next statement, and the open levels, the outermost first.
-#[derive(Drop)]
+// Where a rehearsal stands: the index of the next statement, and the open levels, the outermost first. By default it
+// stands before the first statement, with no open level.
+#[derive(Default, Drop)]
 struct Position {
     at: usize,
     levels: ArrayVec<Level, 8>,

@@ -48,7 +48,7 @@ impl<'a> Rehearsal<'a> {
         seat(NAMED, store, inputs)?;
         Ok(Rehearsal {
             records,
-            position: Position::first(),
+            position: Position::default(),
             tallies: WrittenTallies::default(),
         })
     }

@@ -1,10 +1,9 @@
 // Where a rehearsal goes in its records. Nothing of a body is copied.
-ghost use Rattle.std.specs.Prelude.{◌≡◌, ◌<◌, []};
+ghost use Rattle.std.specs.Prelude.{◌≡◌, ◌<◌};
 ghost use Rattle.reader.specs.Checks.{at as record_in, IsSheet};
 ghost use Rattle.caption_box.specs.Rests.{levels_of, depth_of, body_end, opened, Held, Reaches, rest_behind, rest_after};
 
 use super::{Level, Position};
-use arrayvec::ArrayVec;
 use reader::next_sibling;
 use reader::types::{Kind, Placed, Statement, ZERO_RECORD};
 
@@ -12,25 +11,10 @@ use reader::types::{Kind, Placed, Statement, ZERO_RECORD};
 pub(super) fn record_at(records: &[Placed<Statement>], i: usize) -> Statement
     ensures { result ≡ record_in records.now i }
 {
-    if i < records.len() {
-        records[i].item
-    } else {
-        ZERO_RECORD.item
-    }
+    records.get(i).copied().unwrap_or(ZERO_RECORD).item
 }
 
 impl Position {
-    // Before the first statement, with no open level.
-    pub(super) fn first() -> Position
-        ensures index { result.at ≡ 0 }
-        ensures levels { levels_of result ≡ [] }
-    {
-        Position {
-            at: 0,
-            levels: ArrayVec::new(),
-        }
-    }
-
     // The index after the innermost open body.
     fn body_end(&self, records: &[Placed<Statement>]) -> usize
         ensures { result ≡ body_end records.now (levels_of self.now) (depth_of self.now) }
