@@ -1,5 +1,5 @@
 // One step of an operation over a store.
-ghost use Rattle.std.specs.Prelude.{◌≡◌, suc, ◌<◌};
+ghost use Rattle.std.specs.Prelude.{◌≡◌, suc, ◌<◌, false};
 ghost use Rattle.translator.specs.JumpCode.{inside, fits as fit};
 ghost use Rattle.caption_box.specs.declared.types.State.TheVariants.{Time};
 ghost use Rattle.caption_box.specs.Stepping.{fate as fate_of, stored as stored_by, label_after, finds_more};
@@ -56,6 +56,16 @@ pub(super) struct Moved {
     pub(super) found: bool,
 }
 
+impl Moved {
+    // To an index, by no such test.
+    fn to(next: usize) -> Moved
+        ensures next { result.next ≡ next }
+        ensures found { result.found ≡ false }
+    {
+        Moved { next, found: false }
+    }
+}
+
 // Does an operation that can be done; it stands at the index `at`.
 pub(super) fn perform<S: Store>(
     operation: Operation,
@@ -72,10 +82,7 @@ pub(super) fn perform<S: Store>(
     ensures found { result.found ≡ finds_more (S.Store.numbers store.old) operation }
 {
     match operation {
-        Operation::Halt => Moved {
-            next: at,
-            found: false,
-        },
+        Operation::Halt => Moved::to(at),
         Operation::Plus {
             target,
             source,
@@ -83,10 +90,7 @@ pub(super) fn perform<S: Store>(
         } => {
             let v = get(store, source);
             put(store, target, v + constant);
-            Moved {
-                next: at + 1,
-                found: false,
-            }
+            Moved::to(at + 1)
         }
         Operation::Minus {
             target,
@@ -95,17 +99,11 @@ pub(super) fn perform<S: Store>(
         } => {
             let v = get(store, source);
             put(store, target, v.saturating_sub(constant));
-            Moved {
-                next: at + 1,
-                found: false,
-            }
+            Moved::to(at + 1)
         }
         Operation::If { source, label } => {
             if get(store, source) == 0 {
-                Moved {
-                    next: label - 1,
-                    found: false,
-                }
+                Moved::to(label - 1)
             } else {
                 Moved {
                     next: at + 1,
@@ -113,9 +111,6 @@ pub(super) fn perform<S: Store>(
                 }
             }
         }
-        Operation::Goto { label } => Moved {
-            next: label - 1,
-            found: false,
-        },
+        Operation::Goto { label } => Moved::to(label - 1),
     }
 }
