@@ -8,8 +8,8 @@ use Rattle.reader.specs.declared.types.Kind.TheVariants.{While, Loop}
 use Rattle.reader.specs.Records.{zero_record}
 use Rattle.reader.specs.Checks.{at, IsSheet, sibling}
 use Rattle.reader.proofs.Spans.{zero_statement}
-use Rattle.caption_box.specs.declared.rehearsal.Level.{Level}
-use Rattle.caption_box.specs.declared.rehearsal.Position.{Position}
+use Rattle.caption_box.specs.declared.rehearsal.walking.Level.{Level}
+use Rattle.caption_box.specs.declared.rehearsal.walking.Position.{Position}
 use Rattle.caption_box.specs.Rests.{Recs, levels_of, depth_of, position_of, body_end, rest_in, Bodied, Stands, Held, opened, rest_behind, rest_after, Reaches}
 use Rattle.caption_box.proofs.Fines.{fines}
 use Rattle.caption_box.proofs.Levels.{at_within, small_at, opens_room, body_end_is, sibling-some, sibling-none, leave_some, leave_all, outer_held, outer_few, leave_while, leave_loop, leave_round, enter_loop, enter_while}

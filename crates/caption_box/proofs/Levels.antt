@@ -10,8 +10,8 @@ use Rattle.reader.specs.declared.types.Kind.TheVariants.{Zero, Plus, Minus, Loop
 use Rattle.reader.specs.Sheet.{Sheet, then, depth}
 use Rattle.reader.specs.Checks.{at, span, sheet_of, IsSheet, sibling}
 use Rattle.reader.proofs.Spans.{span_none, span-at, sheet_few, sheet_some, sheet_span}
-use Rattle.caption_box.specs.declared.rehearsal.Level.{Level}
-use Rattle.caption_box.specs.declared.rehearsal.Position.{Position}
+use Rattle.caption_box.specs.declared.rehearsal.walking.Level.{Level}
+use Rattle.caption_box.specs.declared.rehearsal.walking.Position.{Position}
 use Rattle.caption_box.specs.Rests.{Recs, level_of, level_at, levels_of, depth_of, position_of, body_end, again, rest_in, rest_of, Bodied, Inside, Stands, Held, opened, rest_behind, rest_after}
 use Rattle.caption_box.proofs.Fines.{Real, Fine, Fines, fines, whole_depth}
 

@@ -11,8 +11,8 @@ use Rattle.reader.specs.Checks.{at, span, sheet_of, IsSheet}
 use Rattle.reader.proofs.Spans.{span_none}
 use Rattle.caption_box.specs.declared.types.State.{State}
 use Rattle.caption_box.specs.declared.types.State.TheVariants.{Ended, Over, Time}
-use Rattle.caption_box.specs.declared.rehearsal.Position.{Position}
-use Rattle.caption_box.specs.declared.rehearsal.WrittenTallies.{WrittenTallies}
+use Rattle.caption_box.specs.declared.rehearsal.walking.Position.{Position}
+use Rattle.caption_box.specs.declared.rehearsal.counting.WrittenTallies.{WrittenTallies}
 use Rattle.caption_box.specs.declared.rehearsal.Rehearsal.{Rehearsal}
 use Rattle.caption_box.specs.Calls.{state_of, onward}
 use Rattle.caption_box.specs.Rests.{Recs, levels_of, depth_of, rest_in, rest_of, body_end, Stands, Held, leaves, leaves_while, rest_behind, rest_after, Reaches}

@@ -10,7 +10,7 @@ use Rattle.caption_box.specs.declared.types.State.{State}
 use Rattle.caption_box.specs.declared.types.Tally.{Tally}
 use Rattle.caption_box.specs.declared.types.Ticked.{Ticked}
 use Rattle.caption_box.specs.declared.rehearsal.Rehearsal.{Rehearsal}
-use Rattle.caption_box.specs.declared.rehearsal.WrittenTallies.{WrittenTallies}
+use Rattle.caption_box.specs.declared.rehearsal.counting.WrittenTallies.{WrittenTallies}
 use Rattle.caption_box.specs.Calls.{state_of, onward, seats}
 use Rattle.caption_box.specs.Tallies.{tally}
 use Rattle.caption_box.specs.Rests.{Recs, levels_of, rest_of, Stands}

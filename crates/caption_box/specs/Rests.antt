@@ -7,8 +7,8 @@ use Rattle.reader.specs.declared.types.Kind.TheVariants.{Zero, Plus, Minus, Loop
 use Rattle.reader.specs.Sheet.{Sheet, then, while, depth}
 use Rattle.reader.specs.WrittenRun.{times}
 use Rattle.reader.specs.Checks.{at, span}
-use Rattle.caption_box.specs.declared.rehearsal.Level.{Level}
-use Rattle.caption_box.specs.declared.rehearsal.Position.{Position}
+use Rattle.caption_box.specs.declared.rehearsal.walking.Level.{Level}
+use Rattle.caption_box.specs.declared.rehearsal.walking.Position.{Position}
 
 abbrev pub Recs : Type 0
 Recs = List (Placed Statement)

@@ -6,7 +6,9 @@ ghost use Rattle.caption_box.specs.WrittenCalls.{written_outcome, written_ticks,
 ghost use Rattle.caption_box.specs.Calls.{seats, seated};
 ghost use Rattle.caption_box.specs.Rehearsals.{AtFirst, written_scene_of, Rehearsed, WrittenStarted, WrittenUnstarted};
 
-use super::{Position, Rehearsal, WrittenTallies};
+use super::Rehearsal;
+use super::counting::WrittenTallies;
+use super::walking::Position;
 use crate::guards::{NAMED, check_register, check_tick, check_width, register};
 use crate::seating::seat;
 use crate::types::{Question, Ticked};

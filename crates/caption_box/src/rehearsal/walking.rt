@@ -1,9 +1,8 @@
 // Where a rehearsal goes in its records. Nothing of a body is copied.
 ghost use Rattle.std.specs.Prelude.{◌≡◌, ◌<◌};
 ghost use Rattle.reader.specs.Checks.{at as record_in, IsSheet};
-ghost use Rattle.caption_box.specs.Rests.{levels_of, depth_of, body_end, opened, Held, Reaches, rest_behind, rest_after};
 
-use super::{Level, Position};
+use arrayvec::ArrayVec;
 use reader::next_sibling;
 use reader::types::{Kind, Placed, Statement, ZERO_RECORD};
 
@@ -14,7 +13,24 @@ pub(super) fn record_at(records: &[Placed<Statement>], i: usize) -> Statement
     records.get(i).copied().unwrap_or(ZERO_RECORD).item
 }
 
+// An open level: the index of its LOOP or WHILE, and for a LOOP the rounds left after the present one.
+#[derive(Clone, Copy, Default)]
+struct Level {
+    head: usize,
+    left: u32,
+}
+
+// Where a rehearsal stands: the index of the next statement, and the open levels, the outermost first. By default it
+// stands before the first statement, with no open level.
+#[derive(Default, Drop)]
+pub(super) struct Position {
+    pub(super) at: usize,
+    levels: ArrayVec<Level, 8>,
+}
+
 impl Position {
+    ghost use Rattle.caption_box.specs.Rests.{levels_of, depth_of, body_end, opened, Held, Reaches, rest_behind, rest_after};
+
     // The index after the innermost open body.
     fn body_end(&self, records: &[Placed<Statement>]) -> usize
         ensures { result ≡ body_end records.now (levels_of self.now) (depth_of self.now) }

@@ -3,7 +3,7 @@ use Rattle.std.proofs.lemmas.Grind.{common_steps}
 use Rattle.reader.specs.declared.types.Kind.TheVariants.{While}
 use Rattle.caption_box.specs.Rests.{levels_of, depth_of}
 use Rattle.caption_box.proofs.Leaving.{reach_next, reach_end, reach_while, reach_round, leaving_more}
-use Rattle.caption_box.proofs.rehearsal.Position.leave.Goals as goal
+use Rattle.caption_box.proofs.rehearsal.walking.Position.leave.Goals as goal
 
 pub returns-in-Some : goal.returns-in-Some
 returns-in-Some c =

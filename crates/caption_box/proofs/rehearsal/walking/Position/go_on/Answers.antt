@@ -1,6 +1,6 @@
 use Rattle.std.proofs.Common.{arith}
 use Rattle.caption_box.proofs.Leaving.{reach_loop, reach_body}
-use Rattle.caption_box.proofs.rehearsal.Position.go_on.Goals as goal
+use Rattle.caption_box.proofs.rehearsal.walking.Position.go_on.Goals as goal
 
 pub returns-in-Loop : goal.returns-in-Loop
 returns-in-Loop c =
