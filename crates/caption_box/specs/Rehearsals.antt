@@ -6,6 +6,7 @@ use Rattle.reader.specs.Sheet.{Sheet}
 use Rattle.reader.specs.Checks.{IsSheet, span}
 use Rattle.reader.specs.Steps.{many_done}
 use Rattle.reader.specs.WrittenRun.{Counts, no_counts, WrittenRun, running, written_step, written_steps}
+use Rattle.stores.specs.declared.store.Store.{Ghosts}
 use Rattle.caption_box.specs.declared.types.State.{State}
 use Rattle.caption_box.specs.declared.types.Tally.{Tally}
 use Rattle.caption_box.specs.declared.types.Ticked.{Ticked}
@@ -39,6 +40,10 @@ run_of s ν = running ν (rest_of (records_of s) s.position) (written_counts s.t
 -- a rehearsal on a store's numbers, under its top
 abbrev pub written_scene_of : Rehearsal → List ℕ → ℕ → WrittenScene
 written_scene_of s ν top = written_scene (whole_of (records_of s)) top (run_of s ν)
+
+-- the same on a store, by what the stores of its type mean
+abbrev pub written_scene_on : {S : Type 0} → Ghosts S → Rehearsal → S → WrittenScene
+written_scene_on meaning s store = written_scene_of s (meaning.numbers store) (meaning.limit store)
 
 -- before the first statement, with no open level and clear tallies
 pub record AtFirst (s : Rehearsal) : Type 0 where
