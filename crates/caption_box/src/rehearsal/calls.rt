@@ -3,6 +3,7 @@
 ghost use Rattle.std.specs.Prelude.{◌≡◌, Ok, Err, IfOk, MatchResult};
 ghost use Rattle.caption_box.specs.declared.types.Question.TheVariants.{Register};
 ghost use Rattle.caption_box.specs.WrittenCalls.{written_outcome, written_ticks, written_rewinds, written_corrects, written_asks};
+ghost use Rattle.caption_box.specs.Left.{Leaves};
 ghost use Rattle.caption_box.specs.Calls.{seats, seated};
 ghost use Rattle.caption_box.specs.Rehearsals.{AtFirst, written_scene_on, Rehearsed, WrittenStarted, WrittenUnstarted};
 
@@ -41,8 +42,7 @@ impl<'a> Rehearsal<'a> {
         store: &mut S,
         inputs: &[u32],
     ) -> Result<Rehearsal<'a>, Refusal>
-        ensures top { S.Store.limit store.new ≡ S.Store.limit store.old }
-        ensures numbers { S.Store.numbers store.new ≡ seated 32 (S.Store.limit store.old) (S.Store.numbers store.old) inputs.now }
+        ensures left { Leaves S.Store store.old (seated 32 (S.Store.limit store.old) (S.Store.numbers store.old) inputs.now) store.new }
         ensures answer { MatchResult result
             (λ s. (s.records ≡ records.entry) × AtFirst s × (seats 32 (S.Store.limit store.old) (S.Store.numbers store.old) inputs.now ≡ Ok tt))
             (λ e. seats 32 (S.Store.limit store.old) (S.Store.numbers store.old) inputs.now ≡ Err e) }

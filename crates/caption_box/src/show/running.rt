@@ -1,8 +1,8 @@
 // The steps of a show.
 ghost use Rattle.std.specs.Prelude.{◌≡◌, ◌+◌, ◌<◌, ◌≤◌};
 ghost use Rattle.caption_box.specs.Tallies.{largest_of};
-ghost use Rattle.caption_box.specs.Calls.{step as step_of, state_of, onward, tick_box, tick_steps, tick_state};
-ghost use Rattle.caption_box.specs.Shows.{setting_on, box_on};
+ghost use Rattle.caption_box.specs.Calls.{scene, step as step_of, state_of, onward, tick_box, tick_steps, tick_state};
+ghost use Rattle.caption_box.specs.Shows.{setting_on, box_on, scene_on};
 
 use super::Show;
 use super::stepping::{fate, perform};
@@ -29,9 +29,8 @@ impl<'c> Show<'c> {
     fn step<S: Store>(&mut self, store: &mut S) -> State
         requires { largest_of self.old.tallies < 1099511627776 }
         ensures code { self.new.sealed ≡ self.old.sealed }
-        ensures top { S.Store.limit store.new ≡ S.Store.limit store.old }
         ensures state { result ≡ state_of (step_of (setting_on S.Store self.old store.old) (box_on S.Store self.old store.old)) }
-        ensures moved { box_on S.Store self.new store.new ≡ onward (step_of (setting_on S.Store self.old store.old) (box_on S.Store self.old store.old)) (box_on S.Store self.old store.old) }
+        ensures moved { scene_on S.Store self.new store.new ≡ scene (setting_on S.Store self.old store.old) (onward (step_of (setting_on S.Store self.old store.old) (box_on S.Store self.old store.old)) (box_on S.Store self.old store.old)) }
     {
         let Some(instruction) = self.sealed.get(self.next) else {
             return State::Unfit;
@@ -51,8 +50,7 @@ impl<'c> Show<'c> {
     pub(super) fn go<S: Store>(&mut self, store: &mut S, k: u32) -> Ticked
         requires { largest_of self.old.tallies + k ≤ 1099511627776 }
         ensures code { self.new.sealed ≡ self.old.sealed }
-        ensures top { S.Store.limit store.new ≡ S.Store.limit store.old }
-        ensures moved { box_on S.Store self.new store.new ≡ tick_box (setting_on S.Store self.old store.old) k (box_on S.Store self.old store.old) }
+        ensures moved { scene_on S.Store self.new store.new ≡ scene (setting_on S.Store self.old store.old) (tick_box (setting_on S.Store self.old store.old) k (box_on S.Store self.old store.old)) }
         ensures steps { result.steps ≡ tick_steps (setting_on S.Store self.old store.old) k (box_on S.Store self.old store.old) }
         ensures state { result.state ≡ tick_state (setting_on S.Store self.old store.old) k (box_on S.Store self.old store.old) }
     {

@@ -2,6 +2,7 @@
 ghost use Rattle.std.specs.Prelude.{◌≡◌, suc, ◌<◌, false};
 ghost use Rattle.translator.specs.JumpCode.{inside, fits as fit};
 ghost use Rattle.caption_box.specs.declared.types.State.TheVariants.{Time};
+ghost use Rattle.caption_box.specs.Left.{Leaves};
 ghost use Rattle.caption_box.specs.Stepping.{fate as fate_of, stored as stored_by, label_after, finds_more};
 
 use crate::access::{get, plus_fate, put};
@@ -76,8 +77,7 @@ pub(super) fn perform<S: Store>(
 ) -> Moved
     requires inside { at < size }
     requires time { fate_of (S.Store.limit store.old) n size (S.Store.numbers store.old) operation ≡ Time }
-    ensures top { S.Store.limit store.new ≡ S.Store.limit store.old }
-    ensures stored { S.Store.numbers store.new ≡ stored_by (S.Store.numbers store.old) operation }
+    ensures left { Leaves S.Store store.old (stored_by (S.Store.numbers store.old) operation) store.new }
     ensures next { suc result.next ≡ label_after (S.Store.numbers store.old) (suc at) operation }
     ensures found { result.found ≡ finds_more (S.Store.numbers store.old) operation }
 {

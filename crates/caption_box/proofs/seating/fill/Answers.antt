@@ -7,8 +7,8 @@ pub loop-i-preserved : goal.loop-i-preserved
 loop-i-preserved g c = (
   filled_more c.args.n c.args.inputs.now (g.S.Store.numbers c.args.store.now) c.loop-i.i
       (g.S.Store.numbers c.loop-i.store) (g.S.Store.numbers c.put.new.store) c.input.result
-      c.requires.room c.loop-i-test.true c.loop-i.invariant.0 c.input.ensures c.put.ensures.put,
-  c.put.ensures.top ∙ c.loop-i.invariant.1,
+      c.requires.room c.loop-i-test.true c.loop-i.invariant.0 c.input.ensures c.put.ensures.1,
+  c.put.ensures.0 ∙ c.loop-i.invariant.1,
 )
 
 pub put-requires : goal.put-requires

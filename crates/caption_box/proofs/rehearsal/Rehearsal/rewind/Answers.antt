@@ -13,4 +13,4 @@ returns-clause-exact g c =
     let begun = c.in_ok-self.ensures.answer in
     rehearsal_rewound c.in_ok-self.field-0 begun.1 (g.S.Store.limit c.args.store.now) (g.S.Store.limit c.begin.new.store)
     (g.S.Store.numbers c.args.store.now) (g.S.Store.numbers c.begin.new.store) c.args.inputs.now begun.2
-    c.begin.ensures.numbers c.begin.ensures.top c.args.self.now (ap (λ r. r.now) begun.0)
+    c.begin.ensures.left.1 c.begin.ensures.left.0 c.args.self.now (ap (λ r. r.now) begun.0)

@@ -9,7 +9,7 @@ returns-then-eq-clause-exact g c =
     let v : c.perform-found.result ≤ 4294967295 = search rules in
     step_done c.args.self.now (g.S.Store.limit c.args.store.now) (g.S.Store.numbers c.args.store.now) c.record_at-statement.result c.fate-state.result
     c.record_at-statement.ensures c.fate-state.ensures time (g.S.Store.numbers c.perform-found.new.store)
-    c.perform-found.result c.raise.new.self c.go_on.new.self c.perform-found.ensures.stored c.perform-found.ensures.found v
+    c.perform-found.result c.raise.new.self c.go_on.new.self c.perform-found.ensures.left.1 c.perform-found.ensures.found v
     c.requires c.raise.ensures.counts c.go_on.ensures
 
 pub returns-else-eq-clause-exact : goal.returns-else-eq-clause-exact
