@@ -1,5 +1,5 @@
 -- The beginning of a rehearsal: what start and rewind make of a seating.
-use Rattle.std.proofs.Common.{◌≡◌, ℕ, Bool, true, false, cond, ltb, List, length, Ok, Err, Result, MatchResult, sym, refl, ap, ◌∙◌, subst, inr, arith}
+use Rattle.std.proofs.Common.{◌≡◌, ℕ, Bool, true, false, cond, ltb, List, [], length, Ok, Err, Result, MatchResult, sym, refl, ap, ◌∙◌, subst, inr, arith}
 use Rattle.reader.specs.declared.types.Refusal.{Refusal}
 use Rattle.reader.specs.declared.types.Refusal.TheVariants.{SmallStore, ManyInputs, OverTop}
 use Rattle.reader.specs.Sheet.{Sheet}
@@ -30,25 +30,13 @@ rewinds_done x xs ok = go (ltb (length x.run.registers) 32) (ltb 31 (length xs))
     go false false true y e = refl
     go false false false y e = let q : ◌≡◌ {A = ℕ} 0 1 = cc in absurd (omega arith)
 
-rewinds_kept : (x : WrittenScene) (xs : List ℕ) (f : Refusal) → seats 32 x.top x.run.registers xs ≡ Err f → written_rewinds x xs ≡ written_outcome (Err f) x
-rewinds_kept x xs f bad = go (ltb (length x.run.registers) 32) (ltb 31 (length xs)) (all_below x.top xs) (written_scene x.sheet x.top (written_beginning x.sheet xs x.run.registers)) bad
-  where
-    go : (a b c : Bool) (y : WrittenScene) → ◌≡◌ {A = Result (Unit {0}) Refusal} (cond a (Err SmallStore) (cond b (Err ManyInputs) (cond c (Ok tt) (Err OverTop)))) (Err f)
-        → ◌≡◌ {A = WrittenOutcome (Unit {0})}
-        (cond a (written_outcome (Err SmallStore) x) (cond b (written_outcome (Err ManyInputs) x) (cond c (written_outcome (Ok tt) y) (written_outcome (Err OverTop) x))))
-        (written_outcome (Err f) x)
-    go true b c y e = ap (λ (r : Result (Unit {0}) Refusal). written_outcome r x) e
-    go false true c y e = ap (λ (r : Result (Unit {0}) Refusal). written_outcome r x) e
-    go false false true y e = let q : ◌≡◌ {A = ℕ} 0 1 = cc in absurd (omega arith)
-    go false false false y e = ap (λ (r : Result (Unit {0}) Refusal). written_outcome r x) e
-
 none-counted : (n : Counts) → n ≡ no_counts → Counted n
 none-counted n e = subst Counted (sym e) (record { steps = omega arith; entered = omega arith; whiles = omega arith; rounds = omega arith })
 
 -- before the first statement, with clear tallies, on numbers that were seated with n registers
 module _ (s : Rehearsal) (first : AtFirst s) where
-  position_is : s.position ≡ position_of 0 0 s.position.levels
-  position_is i = position_of (first.index i) (first.depth i) s.position.levels
+  position_is : s.position ≡ position_of 0 []
+  position_is i = position_of (first.index i) (first.levels i)
 
   rest_is : rest_of (records_of s) s.position ≡ whole_of (records_of s)
   unfolding rest_in
@@ -58,7 +46,7 @@ module _ (s : Rehearsal) (first : AtFirst s) where
   first_rehearsed h =
       record {
         sheet = h;
-        stands = subst (Stands (records_of s)) (sym position_is) (begins (records_of s) h s.position.levels first.levels).0;
+        stands = subst (Stands (records_of s)) (sym position_is) (begins (records_of s) h).0;
         counted = none-counted (written_counts s.tallies) first.clear;
       }
 
@@ -83,9 +71,6 @@ module _ (s : Rehearsal) (first : AtFirst s) where
 module _ (top top' : ℕ) (ν ν' xs : List ℕ) (f : Refusal) (bad : seats 32 top ν xs ≡ Err f) (en : ν' ≡ seated 32 top ν xs) (et : top' ≡ top) where
   kept : ν' ≡ ν
   kept = en ∙ seated_kept 32 top ν xs f bad
-
-  pub rehearsal_unrewound : (r : Result (Unit {0}) Refusal) → r ≡ Err f → (s : Rehearsal) → written_outcome r (written_scene_of s ν' top') ≡ written_rewinds (written_scene_of s ν top) xs
-  rehearsal_unrewound r e s = (λ i. written_outcome (e i) (written_scene_of s (kept i) (et i))) ∙ sym (rewinds_kept (written_scene_of s ν top) xs f bad)
 
   pub rehearsal_unstarted : (rs : Recs) → IsSheet rs → WrittenUnstarted rs top ν xs f ν'
   rehearsal_unstarted rs h = record { refused = inr (h, bad); numbers = kept }

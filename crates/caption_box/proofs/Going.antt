@@ -5,7 +5,7 @@ use Rattle.translator.specs.JumpCode.{Box}
 use Rattle.caption_box.specs.declared.types.State.{State}
 use Rattle.caption_box.specs.declared.types.State.TheVariants.{Time}
 use Rattle.caption_box.specs.Calls.{Setting, step, state_of, onward, tick_box, tick_steps, tick_state, largest_tally}
-use Rattle.caption_box.proofs.ManySteps.{went_on, stayed, Ran, ran_none, ran_more, came_stopped, came_all}
+use Rattle.caption_box.proofs.ManySteps.{went_on, stayed, Ran, ran_more, came_stopped, came_all}
 use Rattle.caption_box.proofs.Steps.{step_grows, grows_largest, grows_even}
 
 -- after n steps of a tick the show, which began at s₀, stands at s
@@ -13,14 +13,6 @@ pub record Going (g₀ : Setting) (s₀ : Box) (n : ℕ) (g : Setting) (s : Box)
   pub same : g ≡ g₀
   pub tallied : largest_tally s ≤ largest_tally s₀ + n
   pub ran : Ran (step g₀) s₀ n s
-
-pub going_none : (g : Setting) (s : Box) → Going g s 0 g s
-going_none g s =
-    record {
-      same = refl;
-      tallied = omega arith;
-      ran = ran_none (step g) s;
-    }
 
 -- one step more, from s to t
 pub going_more : (g₀ : Setting) (s₀ : Box) (n : ℕ) (g : Setting) (s : Box) (g' : Setting) (t : Box) (o : State) → Going g₀ s₀ n g s

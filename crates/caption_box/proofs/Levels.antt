@@ -1,7 +1,8 @@
 -- What is left as a statement is done, a body ends and a level opens.
-use Rattle.std.proofs.Common.{◌≡◌, ℕ, zero, suc, ◌+◌, ◌-◌, ◌<◌, ◌≤◌, ◌≢◌, List, length, set, Option, sym, refl, ap, ◌∙◌, subst, inl, inr, ⊎_elim, add-one, arith, length-set}
+use Rattle.std.proofs.Common.{◌≡◌, ℕ, zero, suc, ◌+◌, ◌-◌, ◌<◌, ◌≤◌, List, [], ◌∷◌, ◌++◌, length, Option, sym, refl, ap, ◌∙◌, subst, inl, inr, ⊎_elim, arith, length-append}
 use Rattle.std.specs.declared.option.Option.TheVariants as option
-use Rattle.std.proofs.lemmas.List.{get_or-set_same, get_or-set_other}
+use Rattle.std.proofs.Math.Seq.{get_or-append_seam}
+use Rattle.std.proofs.lemmas.List.{get_or_append_left}
 use Rattle.std.proofs.lemmas.Bool.{cases_lt, lt-ltb, le-ltb}
 use Rattle.reader.specs.declared.types.Statement.{Statement}
 use Rattle.reader.specs.declared.types.Kind.{Kind}
@@ -9,9 +10,9 @@ use Rattle.reader.specs.declared.types.Kind.TheVariants.{Zero, Plus, Minus, Loop
 use Rattle.reader.specs.Sheet.{Sheet, then, depth}
 use Rattle.reader.specs.Checks.{at, span, sheet_of, IsSheet, sibling}
 use Rattle.reader.proofs.Spans.{span_none, span-at, sheet_few, sheet_some, sheet_span}
-use Rattle.caption_box.specs.declared.rehearsal.Level.{Level}
-use Rattle.caption_box.specs.declared.rehearsal.Position.{Position}
-use Rattle.caption_box.specs.Rests.{Recs, level_of, level_at, position_of, body_end, again, rest_in, rest_of, Bodied, Inside, Stands, Held, opened, rest_after}
+use Rattle.caption_box.specs.declared.rehearsal.walking.Level.{Level}
+use Rattle.caption_box.specs.declared.rehearsal.walking.Position.{Position}
+use Rattle.caption_box.specs.Rests.{Recs, level_of, level_at, levels_of, depth_of, position_of, body_end, again, rest_in, rest_of, Bodied, Inside, Stands, Held, opened, rest_behind, rest_after}
 use Rattle.caption_box.proofs.Fines.{Real, Fine, Fines, fines, whole_depth}
 
 then_sheet : (k : Kind) (s : Statement) (b p q : Sheet) → Real k → then (sheet_of k s b p) q ≡ sheet_of k s b (then p q)
@@ -70,70 +71,104 @@ inside-behind rs ls (suc d) i h lt within f =
     let q = depth-behind (at rs i).kind (at rs i) (span rs (suc i) (at rs i).end) (span rs (at rs i).end t) f.real in
     (omega (arith, h.0, ap depth e, q), h.1, h.2, h.3)
 
-level-set : (ls : List Level) (k d : ℕ) (v : Level) → d < k → level_at (set ls k v) d ≡ level_at ls d
-level-set ls k d v h = let ne : d ≢ k = omega arith in rw get_or-set_other refl
+-- The levels ls with l opened inside them.
+module _ (ls : List Level) (l : Level) where
+  more-long : length (ls ++ l ∷ []) ≡ suc (length ls)
+  more-long = omega (arith, length-append ls (l ∷ []))
 
-pub body_end_set : (rs : Recs) (ls : List Level) (k d : ℕ) (v : Level) → d ≤ k → body_end rs (set ls k v) d ≡ body_end rs ls d
-body_end_set rs ls k zero v h = refl
-body_end_set rs ls k (suc d) v h = ap (λ (l : Level). (at rs l.head).end) (level-set ls k d v (omega arith))
+  level_last : level_at (ls ++ l ∷ []) (length ls) ≡ l
+  level_last = get_or-append_seam ls l [] (level_of 0 0)
 
--- An inner level changes nothing of what is left outside.
-pub rest_set : (rs : Recs) (ls : List Level) (k d : ℕ) (v : Level) (i : ℕ) → d ≤ k → rest_in rs (set ls k v) d i ≡ rest_in rs ls d i
-unfolding rest_in
-rest_set rs ls k zero v i h = refl
-rest_set rs ls k (suc d) v i h =
-    rw (level-set ls k d v (omega arith), rest_set rs ls k d v (level_at ls d).head (omega arith), rest_set rs ls k d v (at rs (level_at ls d).head).end (omega arith)) refl
+  level_below : (k : ℕ) → k < length ls → level_at (ls ++ l ∷ []) k ≡ level_at ls k
+  level_below k h = get_or_append_left ls (l ∷ []) (level_of 0 0) k h
 
-pub inside-set : (rs : Recs) (ls : List Level) (k d : ℕ) (v : Level) (i : ℕ) → d ≤ k → Inside rs ls d i → Inside rs (set ls k v) d i
-unfolding Inside
-inside-set rs ls k zero v i h q = q
-inside-set rs ls k (suc d) v i h q =
-    let e = level-set ls k d v (omega arith) in
-    rw (e, body_end_set rs ls k d v (omega arith)) (q.0, q.1, q.2, inside-set rs ls k d v (level_at ls d).head (omega arith) q.3)
+  body_end_below : (rs : Recs) (d : ℕ) → d ≤ length ls → body_end rs (ls ++ l ∷ []) d ≡ body_end rs ls d
+  body_end_below rs zero h = refl
+  body_end_below rs (suc d) h = ap (λ (x : Level). (at rs x.head).end) (level_below d (omega arith))
 
--- A body that has ended leaves what comes behind it.
-pub closed : (rs : Recs) (ls : List Level) (d i : ℕ) → (at rs (level_at ls d).head).end ≤ i
-    → rest_in rs ls (suc d) i ≡ again (at rs (level_at ls d).head).kind (level_at ls d).left
-    (span rs (suc (level_at ls d).head) (at rs (level_at ls d).head).end)
-    (rest_in rs ls d (level_at ls d).head)
-    (rest_in rs ls d (at rs (level_at ls d).head).end)
-unfolding rest_in
-closed rs ls d i h = rw (span_none rs i (at rs (level_at ls d).head).end h) refl
+  -- It changes nothing of what is left outside.
+  rest_below : (rs : Recs) (d i : ℕ) → d ≤ length ls → rest_in rs (ls ++ l ∷ []) d i ≡ rest_in rs ls d i
+  unfolding rest_in
+  rest_below rs zero i h = refl
+  rest_below rs (suc d) i h =
+      rw (level_below d (omega arith), rest_below rs d (level_at ls d).head (omega arith), rest_below rs d (at rs (level_at ls d).head).end (omega arith)) refl
 
--- A statement inside d levels.
-abbrev pub HeldAt : Recs → List Level → ℕ → ℕ → Type 0
-HeldAt rs ls d i = Held rs (position_of i d ls)
+  inside_in : (rs : Recs) (d i : ℕ) → d ≤ length ls → Inside rs ls d i → Inside rs (ls ++ l ∷ []) d i
+  unfolding Inside
+  inside_in rs zero i h q = q
+  inside_in rs (suc d) i h q =
+      let e = level_below d (omega arith) in
+      rw (e, body_end_below rs d (omega arith)) (q.0, q.1, q.2, inside_in rs d (level_at ls d).head (omega arith) q.3)
 
-pub within_length : (rs : Recs) → Fines rs → (ls : List Level) (d i : ℕ) → HeldAt rs ls d i → i < length rs
-within_length rs F ls d i w = omega (arith, w.before, ends rs F ls d i w.inside)
+  inside_out : (rs : Recs) (d i : ℕ) → d ≤ length ls → Inside rs (ls ++ l ∷ []) d i → Inside rs ls d i
+  unfolding Inside
+  inside_out rs zero i h q = q
+  inside_out rs (suc d) i h q =
+      let e = level_below d (omega arith) in
+      let r = rw (e, body_end_below rs d (omega arith)) at q in
+      (r.0, r.1, r.2, inside_out rs d (level_at ls d).head (omega arith) r.3)
 
-pub stands_within : (rs : Recs) (p : Position) → Stands rs p → p.at < length rs → HeldAt rs p.levels p.depth p.at
+  -- i stands in the body of l
+  pub record InBody (rs : Recs) (i : ℕ) : Type 0 where
+    pub room : depth (span rs i (at rs l.head).end) + suc (length ls) ≤ 8
+    pub head : l.head < body_end rs ls (length ls)
+    pub bodied : Bodied (at rs l.head).kind
+    pub outer : Inside rs ls (length ls) l.head
+
+  inside_body : (rs : Recs) (i : ℕ) → InBody rs i → Inside rs (ls ++ l ∷ []) (length (ls ++ l ∷ [])) i
+  unfolding Inside
+  inside_body rs i b =
+      subst (λ (d : ℕ). Inside rs (ls ++ l ∷ []) d i) (sym more-long)
+      (rw (level_last, body_end_below rs (length ls) (omega arith)) (b.room, b.head, b.bodied, inside_in rs (length ls) l.head (omega arith) b.outer))
+
+  body_inside : (rs : Recs) (i : ℕ) → Inside rs (ls ++ l ∷ []) (length (ls ++ l ∷ [])) i → InBody rs i
+  unfolding Inside
+  body_inside rs i h =
+      let g : Inside rs (ls ++ l ∷ []) (suc (length ls)) i = subst (λ (d : ℕ). Inside rs (ls ++ l ∷ []) d i) more-long h in
+      let q = rw (level_last, body_end_below rs (length ls) (omega arith)) at g in
+      record { room = q.0; head = q.1; bodied = q.2; outer = inside_out rs (length ls) l.head (omega arith) q.3 }
+
+  pub body_end_is : (rs : Recs) → body_end rs (ls ++ l ∷ []) (length (ls ++ l ∷ [])) ≡ (at rs l.head).end
+  body_end_is rs = ap (body_end rs (ls ++ l ∷ [])) more-long ∙ ap (λ (x : Level). (at rs x.head).end) level_last
+
+  rest_body : (rs : Recs) (i : ℕ) → rest_in rs (ls ++ l ∷ []) (length (ls ++ l ∷ [])) i
+      ≡ then (span rs i (at rs l.head).end) (again (at rs l.head).kind l.left (span rs (suc l.head) (at rs l.head).end)
+      (rest_in rs ls (length ls) l.head) (rest_in rs ls (length ls) (at rs l.head).end))
+  unfolding rest_in
+  rest_body rs i =
+      ap (λ (d : ℕ). rest_in rs (ls ++ l ∷ []) d i) more-long
+      ∙ rw (level_last, rest_below rs (length ls) l.head (omega arith), rest_below rs (length ls) (at rs l.head).end (omega arith)) refl
+
+  -- A body that has ended leaves what comes behind it.
+  closed : (rs : Recs) (i : ℕ) → (at rs l.head).end ≤ i → rest_in rs (ls ++ l ∷ []) (length (ls ++ l ∷ [])) i
+      ≡ again (at rs l.head).kind l.left (span rs (suc l.head) (at rs l.head).end) (rest_in rs ls (length ls) l.head) (rest_in rs ls (length ls) (at rs l.head).end)
+  closed rs i h = rest_body rs i ∙ rw (span_none rs i (at rs l.head).end h) refl
+
+-- A statement inside the levels ls.
+abbrev pub HeldAt : Recs → List Level → ℕ → Type 0
+HeldAt rs ls i = Held rs (position_of i ls)
+
+pub within_length : (rs : Recs) → Fines rs → (ls : List Level) (i : ℕ) → HeldAt rs ls i → i < length rs
+within_length rs F ls i w = omega (arith, w.before, ends rs F ls (length ls) i w.inside)
+
+pub stands_within : (rs : Recs) (p : Position) → Stands rs p → p.at < length rs → Held rs p
 stands_within rs p s lt =
-    record { inside = s.inside; eight = s.eight; before = ⊎_elim (λ b. b) (λ (b : (p.depth ≡ 0) × (p.at ≡ length rs)). let z : ⊥ = omega (arith, b.1) in absurd z) s.before }
+    record { inside = s.inside; before = ⊎_elim (λ b. b) (λ (b : (depth_of p ≡ 0) × (p.at ≡ length rs)). let z : ⊥ = omega (arith, b.1) in absurd z) s.before }
 
-pub leave_some : (rs : Recs) → Fines rs → (ls : List Level) (d i : ℕ) → HeldAt rs ls d i → (at rs i).end < body_end rs ls d
-    → Stands rs (position_of (at rs i).end d ls)
-leave_some rs F ls d i w lt =
-    let n = within_length rs F ls d i w in
-    record { inside = inside-behind rs ls d i w.inside w.before n (F i n); eight = w.eight; before = inl lt }
+pub leave_some : (rs : Recs) → Fines rs → (ls : List Level) (i : ℕ) → HeldAt rs ls i → (at rs i).end < body_end rs ls (length ls)
+    → Stands rs (position_of (at rs i).end ls)
+leave_some rs F ls i w lt =
+    let n = within_length rs F ls i w in
+    record { inside = inside-behind rs ls (length ls) i w.inside w.before n (F i n); before = inl lt }
 
-pub leave_all : (rs : Recs) → Fines rs → (ls : List Level) (d i : ℕ) → HeldAt rs ls d i → d ≡ 0 → body_end rs ls d ≤ (at rs i).end
-    → Stands rs (position_of (length rs) d ls) × (rest_in rs ls d (length rs) ≡ rest_in rs ls d (at rs i).end)
+pub leave_all : (rs : Recs) (ls : List Level) (i : ℕ) → length ls ≡ 0 → body_end rs ls (length ls) ≤ (at rs i).end
+    → Stands rs (position_of (length rs) ls) × (rest_in rs ls (length ls) (length rs) ≡ rest_in rs ls (length ls) (at rs i).end)
 unfolding Inside rest_in
-leave_all rs F ls zero i w e le = (
-  record { inside = rw (span_none rs (length rs) (length rs) (omega arith)) (omega arith); eight = w.eight; before = inr (refl, refl) },
+leave_all rs [] i e le = (
+  record { inside = rw (span_none rs (length rs) (length rs) (omega arith)) (omega arith); before = inr (refl, refl) },
   span_none rs (length rs) (length rs) (omega arith) ∙ sym (span_none rs (at rs i).end (length rs) le),
 )
-leave_all rs F ls (suc d) i w e le = let z : ⊥ = omega arith in absurd z
-
-pub leave_while : (rs : Recs) → Fines rs → (ls : List Level) (d i : ℕ) → HeldAt rs ls (suc d) i
-    → (at rs (level_at ls d).head).kind ≡ While → body_end rs ls (suc d) ≤ (at rs i).end
-    → Stands rs (position_of (level_at ls d).head d ls) × (rest_in rs ls d (level_at ls d).head ≡ rest_in rs ls (suc d) (at rs i).end)
-unfolding Inside
-leave_while rs F ls d i w e le = (
-  record { inside = w.inside.3; eight = w.eight; before = inl w.inside.1 },
-  sym (closed rs ls d (at rs i).end le ∙ ap (λ (k : Kind). again k (level_at ls d).left (span rs (suc (level_at ls d).head) (at rs (level_at ls d).head).end) (rest_in rs ls d (level_at ls d).head) (rest_in rs ls d (at rs (level_at ls d).head).end)) e),
-)
+leave_all rs (x ∷ ls) i e le = let z : ⊥ = omega arith in absurd z
 
 looped : (k : Kind) → Bodied k → (k ≡ While → ⊥) → k ≡ Loop
 looped Zero b n = absurd b
@@ -142,140 +177,76 @@ looped Minus b n = absurd b
 looped Loop b n = refl
 looped While b n = absurd (n refl)
 
-pub leave_loop : (rs : Recs) → Fines rs → (ls : List Level) (d i : ℕ) → HeldAt rs ls (suc d) i
-    → ((at rs (level_at ls d).head).kind ≡ While → ⊥) → (level_at ls d).left ≡ 0 → body_end rs ls (suc d) ≤ (at rs i).end
-    → HeldAt rs ls d (level_at ls d).head × (rest_in rs ls d (at rs (level_at ls d).head).end ≡ rest_in rs ls (suc d) (at rs i).end)
-unfolding Inside
-leave_loop rs F ls d i w ne z le =
-    let e = looped (at rs (level_at ls d).head).kind w.inside.2 ne in (
-      record { inside = w.inside.3; eight = w.eight; before = w.inside.1 },
-      sym (closed rs ls d (at rs i).end le ∙ rw (e, z) refl),
-    )
-
 -- There is room for one more level, that of the statement at i.
-opens_depth : (rs : Recs) → Fines rs → (ls : List Level) (d i : ℕ) → HeldAt rs ls d i → Bodied (at rs i).kind → depth (span rs (suc i) (at rs i).end) + suc d ≤ 8
-opens_depth rs F ls d i w b =
-    let m = within_length rs F ls d i w in
-    let r = room rs ls d i w.inside in
-    let s = span-at rs i (body_end rs ls d) w.before m (F i m).more in
-    let q = depth_body (at rs i).kind (at rs i) (span rs (suc i) (at rs i).end) (span rs (at rs i).end (body_end rs ls d)) b in
+opens_depth : (rs : Recs) → Fines rs → (ls : List Level) (i : ℕ) → HeldAt rs ls i → Bodied (at rs i).kind → depth (span rs (suc i) (at rs i).end) + suc (length ls) ≤ 8
+opens_depth rs F ls i w b =
+    let m = within_length rs F ls i w in
+    let r = room rs ls (length ls) i w.inside in
+    let s = span-at rs i (body_end rs ls (length ls)) w.before m (F i m).more in
+    let q = depth_body (at rs i).kind (at rs i) (span rs (suc i) (at rs i).end) (span rs (at rs i).end (body_end rs ls (length ls))) b in
     omega (arith, r, ap depth s, q)
 
-pub opens_room : (rs : Recs) → Fines rs → (ls : List Level) (d i : ℕ) → HeldAt rs ls d i → Bodied (at rs i).kind → d < 8
-opens_room rs F ls d i w b = omega (arith, opens_depth rs F ls d i w b)
+pub opens_room : (rs : Recs) → Fines rs → (ls : List Level) (i : ℕ) → HeldAt rs ls i → Bodied (at rs i).kind → length ls < 8
+opens_room rs F ls i w b = omega (arith, opens_depth rs F ls i w b)
 
 -- It opens.
-pub opens : (rs : Recs) → Fines rs → (ls : List Level) (d i n : ℕ) → HeldAt rs ls d i → Bodied (at rs i).kind
-    → Stands rs (position_of (suc i) (suc d) (set ls d (level_of i n)))
-unfolding Inside
-opens rs F ls d i n w b =
-    let g = opens_depth rs F ls d i w b in
-    let l : d < length ls = omega (arith, g, w.eight) in
-    let e : level_at (set ls d (level_of i n)) d ≡ level_of i n = rw get_or-set_same refl in
-    let y : suc i < (at rs (level_at (set ls d (level_of i n)) d).head).end = rw e ((F i (within_length rs F ls d i w)).bodied b) in
+opens : (rs : Recs) → Fines rs → (ls : List Level) (i n : ℕ) → HeldAt rs ls i → Bodied (at rs i).kind
+    → Stands rs (position_of (suc i) (ls ++ level_of i n ∷ []))
+opens rs F ls i n w b =
     record {
-      inside = rw (e, body_end_set rs ls d d (level_of i n) (omega arith)) (g, w.before, b, inside-set rs ls d d (level_of i n) i (omega arith) w.inside);
-      eight = length-set ls d (level_of i n) ∙ w.eight;
-      before = inl y;
+      inside = inside_body ls (level_of i n) rs (suc i) (record { room = opens_depth rs F ls i w b; head = w.before; bodied = b; outer = w.inside });
+      before = inl (rw (body_end_is ls (level_of i n) rs) ((F i (within_length rs F ls i w)).bodied b));
     }
 
-pub opens_rest : (rs : Recs) (ls : List Level) (d i n : ℕ) → d < length ls
-    → rest_in rs (set ls d (level_of i n)) (suc d) (suc i) ≡ then (span rs (suc i) (at rs i).end) (again (at rs i).kind n (span rs (suc i) (at rs i).end) (rest_in rs ls d i) (rest_in rs ls d (at rs i).end))
-unfolding rest_in
-opens_rest rs ls d i n l =
-    let e : level_at (set ls d (level_of i n)) d ≡ level_of i n = rw get_or-set_same refl in
-    rw (e, rest_set rs ls d d (level_of i n) i (omega arith), rest_set rs ls d d (level_of i n) (at rs i).end (omega arith)) refl
+-- What is left as the body of l has ended with the statement at i.
+module _ (rs : Recs) (F : Fines rs) (ls : List Level) (l : Level) (i : ℕ) (w : HeldAt rs (ls ++ l ∷ []) i) (le : (at rs l.head).end ≤ (at rs i).end) where
+  body : InBody ls l rs i
+  body = body_inside ls l rs i w.inside
 
-pub leave_round : (rs : Recs) → Fines rs → (ls : List Level) (d i n : ℕ) → HeldAt rs ls (suc d) i
-    → ((at rs (level_at ls d).head).kind ≡ While → ⊥) → (level_at ls d).left ≡ suc n → body_end rs ls (suc d) ≤ (at rs i).end
-    → Stands rs (position_of (suc (level_at ls d).head) (suc d) (set ls d (level_of (level_at ls d).head n)))
-    × (rest_in rs (set ls d (level_of (level_at ls d).head n)) (suc d) (suc (level_at ls d).head) ≡ rest_in rs ls (suc d) (at rs i).end)
-unfolding Inside
-leave_round rs F ls d i n w ne z le =
-    let h = (level_at ls d).head in
-    let e = looped (at rs h).kind w.inside.2 ne in
-    let v : HeldAt rs ls d h = record { inside = w.inside.3; eight = w.eight; before = w.inside.1 } in
-    let l : d < length ls = omega (arith, w.inside.0, w.eight) in (
-      opens rs F ls d h n v w.inside.2,
-      rw (opens_rest rs ls d h n l, closed rs ls d (at rs i).end le, e, z) refl,
-    )
+  pub outer_held : HeldAt rs ls l.head
+  outer_held = record { inside = body.outer; before = body.head }
 
--- The same by the number of open levels, as the code counts down.
-pub one_less : (D : ℕ) → 0 < D → D ≡ suc (D - 1)
-one_less D h = omega arith
+  pub outer_few : length ls < 8
+  outer_few = omega (arith, body.room)
 
-pub shallow : (rs : Recs) (p : Position) → Held rs p → p.depth ≤ 8
-shallow rs p w = omega (arith, room rs p.levels p.depth p.at w.inside)
+  -- A WHILE comes again.
+  pub leave_while : (at rs l.head).kind ≡ While
+      → Stands rs (position_of l.head ls) × (rest_in rs ls (length ls) l.head ≡ rest_in rs (ls ++ l ∷ []) (length (ls ++ l ∷ [])) (at rs i).end)
+  leave_while e = (record { inside = body.outer; before = inl body.head }, sym (closed ls l rs (at rs i).end le ∙ rw e refl))
+
+  module _ (ne : (at rs l.head).kind ≡ While → ⊥) where
+    loop_is : (at rs l.head).kind ≡ Loop
+    loop_is = looped (at rs l.head).kind body.bodied ne
+
+    -- A LOOP with no round left is done.
+    pub leave_loop : l.left ≡ 0 → rest_in rs ls (length ls) (at rs l.head).end ≡ rest_in rs (ls ++ l ∷ []) (length (ls ++ l ∷ [])) (at rs i).end
+    leave_loop z = sym (closed ls l rs (at rs i).end le ∙ rw (loop_is, z) refl)
+
+    -- One with rounds left opens again.
+    pub leave_round : (n : ℕ) → l.left ≡ suc n → (q : Position) → q ≡ position_of (suc l.head) (ls ++ level_of l.head n ∷ [])
+        → Stands rs q × (rest_of rs q ≡ rest_in rs (ls ++ l ∷ []) (length (ls ++ l ∷ [])) (at rs i).end)
+    leave_round n z q is =
+        let b = span rs (suc l.head) (at rs l.head).end in
+        let first : then b (again (at rs l.head).kind n b (rest_in rs ls (length ls) l.head) (rest_in rs ls (length ls) (at rs l.head).end))
+        ≡ again (at rs l.head).kind l.left b (rest_in rs ls (length ls) l.head) (rest_in rs ls (length ls) (at rs l.head).end) = rw (loop_is, z) refl in
+        let goal : Position → Type 0 = λ x. Stands rs x × (rest_of rs x ≡ rest_in rs (ls ++ l ∷ []) (length (ls ++ l ∷ [])) (at rs i).end) in
+        subst goal (sym is) (
+          opens rs F ls l.head n outer_held body.bodied,
+          rest_body ls (level_of l.head n) rs (suc l.head) ∙ first ∙ sym (closed ls l rs (at rs i).end le),
+        )
 
 pub at_within : (rs : Recs) → Fines rs → (p : Position) → Held rs p → p.at < length rs
-at_within rs F p w = within_length rs F p.levels p.depth p.at w
-
-head_in : (rs : Recs) → Fines rs → (ls : List Level) (D d i : ℕ) → D ≡ suc d → Inside rs ls D i → (level_at ls d).head < length rs
-unfolding Inside
-head_in rs F ls D d i e h =
-    let g : Inside rs ls (suc d) i = subst (λ (x : ℕ). Inside rs ls x i) e h in
-    omega (arith, g.1, ends rs F ls d (level_at ls d).head g.3)
-
-pub head_within : (rs : Recs) → Fines rs → (p : Position) → Held rs p → 0 < p.depth → (level_at p.levels (p.depth - 1)).head < length rs
-head_within rs F p w h = head_in rs F p.levels p.depth (p.depth - 1) p.at (one_less p.depth h) w.inside
-
-pub body_end_is : (rs : Recs) (ls : List Level) (D : ℕ) → 0 < D → (at rs (level_at ls (D - 1)).head).end ≡ body_end rs ls D
-body_end_is rs ls D h = ap (λ (x : ℕ). body_end rs ls x) (sym (one_less D h))
-
-pub to_while : (rs : Recs) → Fines rs → (p : Position) → Held rs p → 0 < p.depth
-    → (at rs (level_at p.levels (p.depth - 1)).head).kind ≡ While → body_end rs p.levels p.depth ≤ (at rs p.at).end
-    → Stands rs (position_of (level_at p.levels (p.depth - 1)).head (p.depth - 1) p.levels)
-    × (rest_in rs p.levels (p.depth - 1) (level_at p.levels (p.depth - 1)).head ≡ rest_in rs p.levels p.depth (at rs p.at).end)
-to_while rs F p w h k le =
-    let e = one_less p.depth h in
-    let v : HeldAt rs p.levels (suc (p.depth - 1)) p.at = subst (λ (x : ℕ). HeldAt rs p.levels x p.at) e w in
-    let l : body_end rs p.levels (suc (p.depth - 1)) ≤ (at rs p.at).end = subst (λ (x : ℕ). body_end rs p.levels x ≤ (at rs p.at).end) e le in
-    let r = leave_while rs F p.levels (p.depth - 1) p.at v k l in
-    (r.0, r.1 ∙ ap (λ (x : ℕ). rest_in rs p.levels x (at rs p.at).end) (sym e))
-
-pub to_outer : (rs : Recs) → Fines rs → (p : Position) → Held rs p → 0 < p.depth
-    → ((at rs (level_at p.levels (p.depth - 1)).head).kind ≡ While → ⊥) → (level_at p.levels (p.depth - 1)).left ≤ 0
-    → body_end rs p.levels p.depth ≤ (at rs p.at).end
-    → Held rs (position_of (level_at p.levels (p.depth - 1)).head (p.depth - 1) p.levels)
-    × (rest_in rs p.levels (p.depth - 1) (at rs (level_at p.levels (p.depth - 1)).head).end ≡ rest_in rs p.levels p.depth (at rs p.at).end)
-to_outer rs F p w h k z le =
-    let e = one_less p.depth h in
-    let v : HeldAt rs p.levels (suc (p.depth - 1)) p.at = subst (λ (x : ℕ). HeldAt rs p.levels x p.at) e w in
-    let l : body_end rs p.levels (suc (p.depth - 1)) ≤ (at rs p.at).end = subst (λ (x : ℕ). body_end rs p.levels x ≤ (at rs p.at).end) e le in
-    let r = leave_loop rs F p.levels (p.depth - 1) p.at v k (omega arith) l in
-    (r.0, r.1 ∙ ap (λ (x : ℕ). rest_in rs p.levels x (at rs p.at).end) (sym e))
-
-pub to_round : (rs : Recs) → Fines rs → (p : Position) → Held rs p → 0 < p.depth
-    → ((at rs (level_at p.levels (p.depth - 1)).head).kind ≡ While → ⊥) → 0 < (level_at p.levels (p.depth - 1)).left
-    → body_end rs p.levels p.depth ≤ (at rs p.at).end
-    → (q : Position) → q ≡ position_of ((level_at p.levels (p.depth - 1)).head + 1) p.depth (set p.levels (p.depth - 1) (level_of (level_at p.levels (p.depth - 1)).head ((level_at p.levels (p.depth - 1)).left - 1)))
-    → Stands rs q × (rest_of rs q ≡ rest_in rs p.levels p.depth (at rs p.at).end)
-to_round rs F p w h k z le q is =
-    let d = p.depth - 1 in
-    let g = (level_at p.levels d).head in
-    let n = (level_at p.levels d).left in
-    let e = one_less p.depth h in
-    let v : HeldAt rs p.levels (suc d) p.at = subst (λ (x : ℕ). HeldAt rs p.levels x p.at) e w in
-    let l : body_end rs p.levels (suc d) ≤ (at rs p.at).end = subst (λ (x : ℕ). body_end rs p.levels x ≤ (at rs p.at).end) e le in
-    let r = leave_round rs F p.levels d p.at (n - 1) v k (one_less n z) l in
-    let s : q ≡ position_of (suc g) (suc d) (set p.levels d (level_of g (n - 1))) =
-    is ∙ ap (λ (x : ℕ). position_of x p.depth (set p.levels d (level_of g (n - 1)))) (add-one g) ∙ ap (λ (x : ℕ). position_of (suc g) x (set p.levels d (level_of g (n - 1)))) e in
-    let goal : Position → Type 0 = λ x. Stands rs x × (rest_of rs x ≡ rest_in rs p.levels p.depth (at rs p.at).end) in
-    subst goal (sym s) (r.0, r.1 ∙ ap (λ (x : ℕ). rest_in rs p.levels x (at rs p.at).end) (sym e))
+at_within rs F p w = within_length rs F (levels_of p) p.at w
 
 pub small_at : (rs : Recs) → IsSheet rs → (p : Position) → Held rs p → p.at < 256
 small_at rs h p w = omega (arith, at_within rs (fines rs h) p w, sheet_few rs h)
 
-pub small_head : (rs : Recs) → IsSheet rs → (p : Position) → Held rs p → 0 < p.depth → (level_at p.levels (p.depth - 1)).head < 256
-small_head rs h p w l = omega (arith, head_within rs (fines rs h) p w l, sheet_few rs h)
-
 -- The step of a LOOP that found n + 1, and of a WHILE that found no 0.
-pub enter : (rs : Recs) → Fines rs → (p : Position) → Held rs p → (n : ℕ) → Bodied (at rs p.at).kind → (q : Position) → q ≡ opened p n
-    → Stands rs q × (rest_of rs q ≡ then (span rs (suc p.at) (at rs p.at).end) (again (at rs p.at).kind n (span rs (suc p.at) (at rs p.at).end) (rest_of rs p) (rest_in rs p.levels p.depth (at rs p.at).end)))
+enter : (rs : Recs) → Fines rs → (p : Position) → Held rs p → (n : ℕ) → Bodied (at rs p.at).kind → (q : Position) → q ≡ opened p n
+    → Stands rs q × (rest_of rs q ≡ then (span rs (suc p.at) (at rs p.at).end) (again (at rs p.at).kind n (span rs (suc p.at) (at rs p.at).end) (rest_of rs p) (rest_behind rs p)))
 enter rs F p w n b q is =
-    let l : p.depth < length p.levels = omega (arith, opens_room rs F p.levels p.depth p.at w b, w.eight) in
-    let goal : Position → Type 0 = λ x. Stands rs x × (rest_of rs x ≡ then (span rs (suc p.at) (at rs p.at).end) (again (at rs p.at).kind n (span rs (suc p.at) (at rs p.at).end) (rest_of rs p) (rest_in rs p.levels p.depth (at rs p.at).end))) in
-    subst goal (sym is) (opens rs F p.levels p.depth p.at n w b, opens_rest rs p.levels p.depth p.at n l)
+    let goal : Position → Type 0 = λ x. Stands rs x × (rest_of rs x ≡ then (span rs (suc p.at) (at rs p.at).end) (again (at rs p.at).kind n (span rs (suc p.at) (at rs p.at).end) (rest_of rs p) (rest_behind rs p))) in
+    subst goal (sym is) (opens rs F (levels_of p) p.at n w b, rest_body (levels_of p) (level_of p.at n) rs (suc p.at))
 
 pub enter_loop : (rs : Recs) → Fines rs → (p : Position) → Held rs p → (v : ℕ) → (at rs p.at).kind ≡ Loop → (v ≡ 0 → ⊥) → (q : Position) → q ≡ opened p (v - 1)
     → Stands rs q × (rest_of rs q ≡ rest_after rs p v)
@@ -283,7 +254,7 @@ enter_loop rs F p w v k ne q is =
     let b : Bodied (at rs p.at).kind = rw k tt in
     let r = enter rs F p w (v - 1) b q is in
     let e : v ≡ suc (v - 1) = omega arith in
-    let g : rest_after rs p v ≡ then (span rs (suc p.at) (at rs p.at).end) (again (at rs p.at).kind (v - 1) (span rs (suc p.at) (at rs p.at).end) (rest_of rs p) (rest_in rs p.levels p.depth (at rs p.at).end)) =
+    let g : rest_after rs p v ≡ then (span rs (suc p.at) (at rs p.at).end) (again (at rs p.at).kind (v - 1) (span rs (suc p.at) (at rs p.at).end) (rest_of rs p) (rest_behind rs p)) =
     ap (λ (x : ℕ). rest_after rs p x) e ∙ rw k refl in
     (r.0, r.1 ∙ sym g)
 
@@ -294,8 +265,8 @@ enter_while rs F p w v k ne q is =
     let r = enter rs F p w 0 b q is in
     let e : v ≡ suc (v - 1) = omega arith in
     let n = at_within rs F p w in
-    let h = rest_here rs p.levels p.depth p.at w.before n (F p.at n) in
-    let g : rest_after rs p v ≡ then (span rs (suc p.at) (at rs p.at).end) (again (at rs p.at).kind 0 (span rs (suc p.at) (at rs p.at).end) (rest_of rs p) (rest_in rs p.levels p.depth (at rs p.at).end)) =
+    let h = rest_here rs (levels_of p) (depth_of p) p.at w.before n (F p.at n) in
+    let g : rest_after rs p v ≡ then (span rs (suc p.at) (at rs p.at).end) (again (at rs p.at).kind 0 (span rs (suc p.at) (at rs p.at).end) (rest_of rs p) (rest_behind rs p)) =
     ap (λ (x : ℕ). rest_after rs p x) e ∙ rw (h, k) refl in
     (r.0, r.1 ∙ sym g)
 
@@ -320,6 +291,6 @@ sibling-none rs i e r l q s =
     (cases_lt (at rs i).end e)
 
 -- Before the first statement the whole sheet is left.
-pub begins : (rs : Recs) (h : IsSheet rs) (ls : List Level) → length ls ≡ 8 → Stands rs (position_of 0 0 ls) × (rest_in rs ls 0 0 ≡ h.sheet)
+pub begins : (rs : Recs) (h : IsSheet rs) → Stands rs (position_of 0 []) × (rest_in rs [] 0 0 ≡ h.sheet)
 unfolding rest_in Inside
-begins rs h ls e = (record { inside = whole_depth rs h; eight = e; before = inl (sheet_some rs h) }, sheet_span rs h)
+begins rs h = (record { inside = whole_depth rs h; before = inl (sheet_some rs h) }, sheet_span rs h)

@@ -1,5 +1,5 @@
 -- Many steps of any run, taken one by one.
-use Rattle.std.proofs.Common.{◌≡◌, ℕ, zero, suc, ◌+◌, ◌-◌, ◌≤◌, sym, refl, ap, ◌∙◌, add-zero, zero-add, arith}
+use Rattle.std.proofs.Common.{◌≡◌, ℕ, zero, suc, ◌+◌, ◌-◌, ◌≤◌, sym, refl, ap, ◌∙◌, add-zero, arith}
 use Rattle.reader.specs.Steps.{Next, went, waits, ended, unfit, go_on, count_on, many, many_done}
 use Rattle.caption_box.specs.declared.types.State.TheVariants.{Time}
 use Rattle.caption_box.specs.Calls.{state_of, onward}
@@ -60,13 +60,6 @@ module _ {S : Type 0} (f : S → Next S) where
 
   upto : (n k : ℕ) → n ≤ k → n + (k - n) ≡ k
   upto n k h = omega arith
-
-  pub ran_none : (s : S) → Ran f s 0 s
-  ran_none s =
-      record {
-        so_far = λ j. ap (λ (x : ℕ). many f x s) (zero-add j);
-        so_done = λ j. ap (λ (x : ℕ). many_done f x s) (zero-add j) ∙ sym (zero-add (many_done f j s));
-      }
 
   -- one step more
   pub ran_more : (s₀ : S) (n : ℕ) (s t : S) → Ran f s₀ n s → f s ≡ went t → Ran f s₀ (n + 1) t

@@ -1,5 +1,5 @@
 -- What the loop of a rehearsal's tick keeps, and what it comes to.
-use Rattle.std.proofs.Common.{◌≡◌, ℕ, suc, ◌+◌, ◌<◌, ◌≤◌, List, sym, refl, ap, ◌∙◌, arith}
+use Rattle.std.proofs.Common.{◌≡◌, ℕ, suc, ◌+◌, ◌<◌, ◌≤◌, List, sym, ap, ◌∙◌, arith}
 use Rattle.reader.specs.Steps.{went}
 use Rattle.reader.specs.WrittenRun.{WrittenRun, written_step}
 use Rattle.caption_box.specs.declared.types.State.{State}
@@ -7,7 +7,7 @@ use Rattle.caption_box.specs.declared.types.State.TheVariants.{Time}
 use Rattle.caption_box.specs.declared.rehearsal.Rehearsal.{Rehearsal}
 use Rattle.caption_box.specs.Calls.{state_of}
 use Rattle.caption_box.specs.Rehearsals.{run_of, Rehearsed, Stepped, Gone}
-use Rattle.caption_box.proofs.ManySteps.{went_on, stayed, Ran, ran_none, ran_more, came_stopped, came_all}
+use Rattle.caption_box.proofs.ManySteps.{went_on, stayed, Ran, ran_more, came_stopped, came_all}
 
 -- after n steps of a tick the rehearsal, which began as s₀ on the numbers ν₀ under top₀, is s on ν under top
 pub record Rehearsing (top₀ : ℕ) (s₀ : Rehearsal) (ν₀ : List ℕ) (n top : ℕ) (s : Rehearsal) (ν : List ℕ) : Type 0 where
@@ -16,16 +16,6 @@ pub record Rehearsing (top₀ : ℕ) (s₀ : Rehearsal) (ν₀ : List ℕ) (n to
   pub most : s.tallies.written ≤ s₀.tallies.written + n
   pub kept : Rehearsed s₀ → Rehearsed s
   pub ran : Rehearsed s₀ → Ran (written_step top₀) (run_of s₀ ν₀) n (run_of s ν)
-
-pub rehearsing_none : (top : ℕ) (s : Rehearsal) (ν : List ℕ) → Rehearsing top s ν 0 top s ν
-rehearsing_none top s ν =
-    record {
-      same = refl;
-      limit = refl;
-      most = omega arith;
-      kept = λ h. h;
-      ran = λ h. ran_none (written_step top) (run_of s ν);
-    }
 
 module _ (top₀ : ℕ) (s₀ : Rehearsal) (ν₀ : List ℕ) (n top : ℕ) (s : Rehearsal) (ν : List ℕ) (g : Rehearsing top₀ s₀ ν₀ n top s ν) where
   -- one step more

@@ -1,14 +1,14 @@
 -- Seating a run: the scan of the inputs, the filling of the registers, and what start and rewind of a show make of it.
-use Rattle.std.proofs.Common.{◌≡◌, ℕ, zero, suc, ◌+◌, ◌<◌, ◌≤◌, Bool, true, false, cond, T, ltb, List, [], ◌∷◌, ◌++◌, length, get_or, take, drop, set, replicate, Ok, Err, Result, sym, refl, ap, ◌∙◌, subst, zero-le, arith, length-set, take-append-drop, drop-set-lt}
+use Rattle.std.proofs.Common.{◌≡◌, ℕ, zero, suc, ◌+◌, ◌<◌, ◌≤◌, Bool, true, false, cond, T, ltb, List, [], ◌∷◌, ◌++◌, length, get_or, take, drop, set, replicate, Ok, Err, Result, sym, refl, ap, ◌∙◌, subst, zero-le, arith, length-set, drop-set-lt}
 use Rattle.std.specs.List.{All}
 use Rattle.std.proofs.lemmas.Bool.{le-leb}
 use Rattle.std.proofs.lemmas.List.Elements.{All-head, All-tail, All-from_get_or}
-use Rattle.std.proofs.lemmas.List.{take_more, take_more_set, drop-drop, get_or-take, take_all}
+use Rattle.std.proofs.lemmas.List.{take_more, take_more_set, drop-drop, get_or-take}
 use Rattle.reader.specs.declared.types.Refusal.{Refusal}
 use Rattle.reader.specs.declared.types.Refusal.TheVariants.{SmallStore, ManyInputs, OverTop}
 use Rattle.reader.specs.WrittenRun.{Counts, no_counts}
 use Rattle.caption_box.specs.Seats.{all_below, entered, input_at}
-use Rattle.caption_box.specs.Calls.{Setting, scene, seats, seated, Started, Unstarted}
+use Rattle.caption_box.specs.Calls.{Setting, scene, seats, seated, Started}
 use Rattle.caption_box.proofs.Low.{low_cons, low_tested, start_length}
 
 all_below_all : (top : ℕ) (xs : List ℕ) → All (λ v. v ≤ top) xs → all_below top xs ≡ true
@@ -47,9 +47,6 @@ pub record Filled (n : ℕ) (xs ν : List ℕ) (i : ℕ) (ν' : List ℕ) : Type
   pub back : drop i ν' ≡ drop i ν
   pub long : length ν' ≡ length ν
 
-pub filled_none : (n : ℕ) (xs ν : List ℕ) → Filled n xs ν 0 ν
-filled_none n xs ν = record { front = refl; back = refl; long = refl }
-
 pub filled_more : (n : ℕ) (xs ν : List ℕ) (i : ℕ) (ν' ν'' : List ℕ) (v : ℕ) → n ≤ length ν → i < n → Filled n xs ν i ν'
     → v ≡ input_at xs i → ν'' ≡ set ν' i v → Filled n xs ν (i + 1) ν''
 filled_more n xs ν i ν' ν'' v room lt h ev e =
@@ -66,11 +63,6 @@ filled_more n xs ν i ν' ν'' v room lt h ev e =
       back = drop-set-lt (i + 1) ν' i v (omega arith) ∙ sym (drop-drop 1 i ν') ∙ ap (drop 1) h.back ∙ drop-drop 1 i ν;
       long = length-set ν' i v ∙ lo;
     })
-
-pub filled_all : (n : ℕ) (xs ν : List ℕ) (ν' : List ℕ) → Filled n xs ν n ν' → ν' ≡ entered n xs ++ drop n ν
-filled_all n xs ν ν' h =
-    let long = start_length n xs in
-    sym (take-append-drop n ν') ∙ (λ k. (h.front ∙ take_all n (entered n xs) (omega arith)) k ++ h.back k)
 
 -- the numbers after a seating that is done, and after one that is refused
 pub seated_done : (n top : ℕ) (ν xs : List ℕ) → seats n top ν xs ≡ Ok tt → seated n top ν xs ≡ entered n xs ++ drop n ν
@@ -103,7 +95,3 @@ started g ν xs ν' g' st n r ok er en eg es ec =
           let en' = en ∙ seated_done g.need g.top ν xs (sym er ∙ ok) in
           λ i. scene (eg i) (record { label = 1; registers = en' i; steps = es i; counts = ec i });
     }
-
-pub unstarted : (g : Setting) (ν xs ν' : List ℕ) (f : Refusal) (r : Result (Unit {0}) Refusal) → r ≡ Err f → r ≡ seats g.need g.top ν xs → ν' ≡ seated g.need g.top ν xs
-    → Unstarted g ν xs f ν'
-unstarted g ν xs ν' f r bad er en = record { refused = sym er ∙ bad; numbers = en ∙ seated_kept g.need g.top ν xs f (sym er ∙ bad) }

@@ -1,5 +1,5 @@
 -- The pieces of a step make the step by the GOTO rules.
-use Rattle.std.proofs.Common.{◌≡◌, ℕ, zero, suc, ◌+◌, ◌<◌, ◌≤◌, Bool, true, false, cond, not, ◌&&◌, eqb, ltb, leb, List, [], ◌∷◌, length, get_or, Some, None, sym, refl, ap, ◌∙◌, subst, arith, length-set}
+use Rattle.std.proofs.Common.{◌≡◌, ℕ, zero, suc, ◌+◌, ◌<◌, ◌≤◌, Bool, true, false, cond, not, ◌&&◌, eqb, ltb, leb, List, [], ◌∷◌, length, get_or, Some, sym, refl, ap, ◌∙◌, subst, arith}
 use mathlib.Core.Option.{Option, none, some}
 use lib.ListN.{get_elem?}
 use Rattle.std.proofs.lemmas.Bool.{ne_eqb}
@@ -17,7 +17,7 @@ use Rattle.translator.specs.Seals.{answer}
 use Rattle.caption_box.specs.declared.types.State.{State}
 use Rattle.caption_box.specs.declared.types.State.TheVariants.{Ended, Unfit, Over, Time}
 use Rattle.caption_box.specs.Tallies.{counted}
-use Rattle.caption_box.specs.Calls.{Setting, step, state_of, largest_tally}
+use Rattle.caption_box.specs.Calls.{Setting, step, largest_tally}
 use Rattle.caption_box.specs.Stepping.{fate, stored, label_after, finds_more}
 
 -- what a step comes to, by the state before it and the box after it
@@ -26,12 +26,6 @@ by_state Time t = went t
 by_state Over t = waits
 by_state Ended t = ended
 by_state Unfit t = unfit
-
-pub state_told : (o : State) (t : Box) → state_of (by_state o t) ≡ o
-state_told Time t = refl
-state_told Over t = refl
-state_told Ended t = refl
-state_told Unfit t = refl
 
 -- a box by its parts
 abbrev pub boxed : ℕ → List ℕ → ℕ → Counts → Box
@@ -93,45 +87,33 @@ pub found_some : (o : Option Instruction) (x : Instruction) → Some x ≡ answe
 found_some none x e = let q : ◌≡◌ {A = ℕ} 0 1 = cc in absurd (omega arith)
 found_some (some y) x e = let q : x ≡ y = cc in sym (ap some q)
 
-pub found_none : (o : Option Instruction) → None ≡ answer o → o ≡ none
-found_none none e = refl
-found_none (some y) e = let q : ◌≡◌ {A = ℕ} 0 1 = cc in absurd (omega arith)
-
 -- an instruction stands inside the code
 pub inside_code : (c : List Instruction) (i : ℕ) (x : Instruction) → get_elem? c i ≡ some x → i < length c
 inside_code [] i x e = let q : ◌≡◌ {A = ℕ} 0 1 = cc in absurd (omega arith)
 inside_code (y ∷ c) zero x e = omega arith
 inside_code (y ∷ c) (suc i) x e = let h = inside_code c i x e in omega arith
 
-stored-length : (ν : List ℕ) (o : Operation) → length (stored ν o) ≡ length ν
-stored-length ν (Plus i j c) = length-set ν i _
-stored-length ν (Minus i j c) = length-set ν i _
-stored-length ν (If i l) = refl
-stored-length ν (Goto l) = refl
-stored-length ν operation.Halt = refl
-
--- what a step keeps: the number of registers, and that it adds one to the box steps and at most one to each other tally
+-- a step adds one to the box steps and at most one to each other tally
 pub record Grows (s t : Box) : Type 0 where
-  pub long : length t.registers ≡ length s.registers
   pub steps : t.steps ≡ suc s.steps
   pub written : t.counts.written ≤ suc s.counts.written
   pub entered : t.counts.entered ≤ suc s.counts.entered
   pub rounds : t.counts.rounds ≤ suc s.counts.rounds
   pub whiles : t.counts.whiles ≤ suc s.counts.whiles
 
-grows_by : (l l' : ℕ) (ν ν' : List ℕ) (b : ℕ) (n : Counts) (r : Role) (f : Bool) → length ν' ≡ length ν → Grows (boxed l ν b n) (boxed l' ν' (suc b) (counted r f n))
-grows_by l l' ν ν' b n Written true e = record { long = e; steps = refl; written = omega arith; entered = omega arith; rounds = omega arith; whiles = omega arith }
-grows_by l l' ν ν' b n Written false e = record { long = e; steps = refl; written = omega arith; entered = omega arith; rounds = omega arith; whiles = omega arith }
-grows_by l l' ν ν' b n Entry true e = record { long = e; steps = refl; written = omega arith; entered = omega arith; rounds = omega arith; whiles = omega arith }
-grows_by l l' ν ν' b n Entry false e = record { long = e; steps = refl; written = omega arith; entered = omega arith; rounds = omega arith; whiles = omega arith }
-grows_by l l' ν ν' b n Test true e = record { long = e; steps = refl; written = omega arith; entered = omega arith; rounds = omega arith; whiles = omega arith }
-grows_by l l' ν ν' b n Test false e = record { long = e; steps = refl; written = omega arith; entered = omega arith; rounds = omega arith; whiles = omega arith }
-grows_by l l' ν ν' b n Down true e = record { long = e; steps = refl; written = omega arith; entered = omega arith; rounds = omega arith; whiles = omega arith }
-grows_by l l' ν ν' b n Down false e = record { long = e; steps = refl; written = omega arith; entered = omega arith; rounds = omega arith; whiles = omega arith }
-grows_by l l' ν ν' b n Jump true e = record { long = e; steps = refl; written = omega arith; entered = omega arith; rounds = omega arith; whiles = omega arith }
-grows_by l l' ν ν' b n Jump false e = record { long = e; steps = refl; written = omega arith; entered = omega arith; rounds = omega arith; whiles = omega arith }
-grows_by l l' ν ν' b n role.Halt true e = record { long = e; steps = refl; written = omega arith; entered = omega arith; rounds = omega arith; whiles = omega arith }
-grows_by l l' ν ν' b n role.Halt false e = record { long = e; steps = refl; written = omega arith; entered = omega arith; rounds = omega arith; whiles = omega arith }
+grows_by : (l l' : ℕ) (ν ν' : List ℕ) (b : ℕ) (n : Counts) (r : Role) (f : Bool) → Grows (boxed l ν b n) (boxed l' ν' (suc b) (counted r f n))
+grows_by l l' ν ν' b n Written true = record { steps = refl; written = omega arith; entered = omega arith; rounds = omega arith; whiles = omega arith }
+grows_by l l' ν ν' b n Written false = record { steps = refl; written = omega arith; entered = omega arith; rounds = omega arith; whiles = omega arith }
+grows_by l l' ν ν' b n Entry true = record { steps = refl; written = omega arith; entered = omega arith; rounds = omega arith; whiles = omega arith }
+grows_by l l' ν ν' b n Entry false = record { steps = refl; written = omega arith; entered = omega arith; rounds = omega arith; whiles = omega arith }
+grows_by l l' ν ν' b n Test true = record { steps = refl; written = omega arith; entered = omega arith; rounds = omega arith; whiles = omega arith }
+grows_by l l' ν ν' b n Test false = record { steps = refl; written = omega arith; entered = omega arith; rounds = omega arith; whiles = omega arith }
+grows_by l l' ν ν' b n Down true = record { steps = refl; written = omega arith; entered = omega arith; rounds = omega arith; whiles = omega arith }
+grows_by l l' ν ν' b n Down false = record { steps = refl; written = omega arith; entered = omega arith; rounds = omega arith; whiles = omega arith }
+grows_by l l' ν ν' b n Jump true = record { steps = refl; written = omega arith; entered = omega arith; rounds = omega arith; whiles = omega arith }
+grows_by l l' ν ν' b n Jump false = record { steps = refl; written = omega arith; entered = omega arith; rounds = omega arith; whiles = omega arith }
+grows_by l l' ν ν' b n role.Halt true = record { steps = refl; written = omega arith; entered = omega arith; rounds = omega arith; whiles = omega arith }
+grows_by l l' ν ν' b n role.Halt false = record { steps = refl; written = omega arith; entered = omega arith; rounds = omega arith; whiles = omega arith }
 
 -- a step that is done
 pub step_grows : (g : Setting) (s t : Box) → step g s ≡ went t → Grows s t
@@ -147,7 +129,7 @@ step_grows g s t e = at (instruction_at g.code s.label) refl
     at none i = let q = sym (step-none g s i) ∙ e in let z : ◌≡◌ {A = ℕ} 0 1 = cc in absurd (omega arith)
     at (some x) i =
         by (fate g.top g.need (length g.code) s.registers x.operation) (after s x)
-        (grows_by s.label _ s.registers _ s.steps s.counts x.role (finds_more s.registers x.operation) (stored-length s.registers x.operation))
+        (grows_by s.label _ s.registers _ s.steps s.counts x.role (finds_more s.registers x.operation))
         (sym (step-at g s x i) ∙ e)
 
 pub grows_largest : (s t : Box) → Grows s t → largest_tally t ≤ suc (largest_tally s)
@@ -158,8 +140,3 @@ grows_largest s t h =
 pub grows_even : (s t : Box) → Grows s t → largest_tally s ≡ s.steps → largest_tally t ≡ t.steps
 grows_even s t h e =
     let a = h.steps in let b = h.written in let c = h.entered in let d = h.rounds in let f = h.whiles in omega arith
-
--- a step at an instruction, by the state that its operation stands in
-pub state_at : (g : Setting) (s : Box) (x : Instruction) (o : State) → instruction_at g.code s.label ≡ some x
-    → o ≡ fate g.top g.need (length g.code) s.registers x.operation → step g s ≡ by_state o (after s x)
-state_at g s x o i e = step-at g s x i ∙ ap (λ (q : State). by_state q (after s x)) (sym e)

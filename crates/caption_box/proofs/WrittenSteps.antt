@@ -11,11 +11,11 @@ use Rattle.reader.specs.Checks.{at, span, sheet_of, IsSheet}
 use Rattle.reader.proofs.Spans.{span_none}
 use Rattle.caption_box.specs.declared.types.State.{State}
 use Rattle.caption_box.specs.declared.types.State.TheVariants.{Ended, Over, Time}
-use Rattle.caption_box.specs.declared.rehearsal.Position.{Position}
-use Rattle.caption_box.specs.declared.rehearsal.WrittenTallies.{WrittenTallies}
+use Rattle.caption_box.specs.declared.rehearsal.walking.Position.{Position}
+use Rattle.caption_box.specs.declared.rehearsal.counting.WrittenTallies.{WrittenTallies}
 use Rattle.caption_box.specs.declared.rehearsal.Rehearsal.{Rehearsal}
 use Rattle.caption_box.specs.Calls.{state_of, onward}
-use Rattle.caption_box.specs.Rests.{Recs, rest_in, rest_of, body_end, Stands, Held, leaves, leaves_while, rest_behind, rest_after, Reaches}
+use Rattle.caption_box.specs.Rests.{Recs, levels_of, depth_of, rest_in, rest_of, body_end, Stands, Held, leaves, leaves_while, rest_behind, rest_after, Reaches}
 use Rattle.caption_box.specs.WrittenSteps.{found_in, kind_fate, written_fate, written_stored, counted_while, written_counted, Counted}
 use Rattle.caption_box.specs.Rehearsals.{written_counts, records_of, run_of, Rehearsed, Stepped}
 use Rattle.caption_box.proofs.Fines.{Real, fines}
@@ -60,15 +60,15 @@ rest_ended : (rs : Recs) → IsSheet rs → (p : Position) → Stands rs p → l
 unfolding rest_in
 rest_ended rs h p s le =
     ⊎_elim
-    (λ (b : p.at < body_end rs p.levels p.depth). let z : ⊥ = omega (arith, b, ends rs (fines rs h) p.levels p.depth p.at s.inside) in absurd z)
-    (λ (b : (p.depth ≡ 0) × (p.at ≡ length rs)). ap (λ (d : ℕ). rest_in rs p.levels d p.at) b.0 ∙ span_none rs p.at (length rs) le)
+    (λ (b : p.at < body_end rs (levels_of p) (depth_of p)). let z : ⊥ = omega (arith, b, ends rs (fines rs h) (levels_of p) (depth_of p) p.at s.inside) in absurd z)
+    (λ (b : (depth_of p ≡ 0) × (p.at ≡ length rs)). ap (λ (d : ℕ). rest_in rs (levels_of p) d p.at) b.0 ∙ span_none rs p.at (length rs) le)
     s.before
 
 rest_held : (rs : Recs) → IsSheet rs → (p : Position) → Held rs p
     → rest_of rs p ≡ sheet_of (at rs p.at).kind (at rs p.at) (span rs (suc p.at) (at rs p.at).end) (rest_behind rs p)
 rest_held rs h p w =
     let n = at_within rs (fines rs h) p w in
-    rest_here rs p.levels p.depth p.at w.before n (fines rs h p.at n)
+    rest_here rs (levels_of p) (depth_of p) p.at w.before n (fines rs h p.at n)
 
 -- the record at the position tells how the run stands
 pub fate_told : (rs : Recs) → IsSheet rs → (p : Position) → Stands rs p → (top : ℕ) (ν : List ℕ) (n : Counts)

@@ -1,5 +1,6 @@
 pub mod Tallies
 pub mod Seats
+pub mod Left
 pub mod Calls
 pub mod Shows
 pub mod Stepping

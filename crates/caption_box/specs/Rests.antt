@@ -1,5 +1,5 @@
 -- What is left of a written run, by the records of its sheet, the index of the next statement and the open levels.
-use Rattle.std.specs.Prelude.{◌≡◌, ℕ, zero, suc, ◌+◌, ◌<◌, ◌≤◌, ◌⊎◌, List, length, slice_index_or, slice_set}
+use Rattle.std.specs.Prelude.{◌≡◌, ℕ, zero, suc, ◌+◌, ◌<◌, ◌≤◌, ◌⊎◌, List, [], ◌∷◌, ◌++◌, length, slice_index_or}
 use Rattle.reader.specs.declared.types.Placed.{Placed}
 use Rattle.reader.specs.declared.types.Statement.{Statement}
 use Rattle.reader.specs.declared.types.Kind.{Kind}
@@ -7,8 +7,8 @@ use Rattle.reader.specs.declared.types.Kind.TheVariants.{Zero, Plus, Minus, Loop
 use Rattle.reader.specs.Sheet.{Sheet, then, while, depth}
 use Rattle.reader.specs.WrittenRun.{times}
 use Rattle.reader.specs.Checks.{at, span}
-use Rattle.caption_box.specs.declared.rehearsal.Level.{Level}
-use Rattle.caption_box.specs.declared.rehearsal.Position.{Position}
+use Rattle.caption_box.specs.declared.rehearsal.walking.Level.{Level}
+use Rattle.caption_box.specs.declared.rehearsal.walking.Position.{Position}
 
 abbrev pub Recs : Type 0
 Recs = List (Placed Statement)
@@ -20,8 +20,15 @@ level_of h n = record { head = h; left = n }
 abbrev pub level_at : List Level → ℕ → Level
 level_at ls d = slice_index_or ls d (level_of 0 0)
 
-abbrev pub position_of : ℕ → ℕ → List Level → Position
-position_of i d ls = record { at = i; depth = d; levels = ls }
+abbrev pub position_of : ℕ → List Level → Position
+position_of i ls = record { at = i; levels = record { items = ls } }
+
+-- the open levels, the outermost first, and how many there are
+abbrev pub levels_of : Position → List Level
+levels_of p = p.levels.items
+
+abbrev pub depth_of : Position → ℕ
+depth_of p = length (levels_of p)
 
 -- the index after the innermost of d open bodies
 abbrev pub body_end : Recs → List Level → ℕ → ℕ
@@ -47,7 +54,7 @@ rest_in rs ls (suc d) i =
     (rest_in rs ls d (at rs (level_at ls d).head).end))
 
 abbrev pub rest_of : Recs → Position → Sheet
-rest_of rs p = rest_in rs p.levels p.depth p.at
+rest_of rs p = rest_in rs (levels_of p) (depth_of p) p.at
 
 -- LOOP and WHILE
 abbrev pub Bodied : Kind → Type 0
@@ -68,23 +75,17 @@ Inside rs ls (suc d) i =
 
 -- a position before a statement of its innermost body, or at the end of all
 pub record Stands (rs : Recs) (p : Position) : Type 0 where
-  pub inside : Inside rs p.levels p.depth p.at
-  pub eight : length p.levels ≡ 8
-  pub before : (p.at < body_end rs p.levels p.depth) ⊎ ((p.depth ≡ 0) × (p.at ≡ length rs))
+  pub inside : Inside rs (levels_of p) (depth_of p) p.at
+  pub before : (p.at < body_end rs (levels_of p) (depth_of p)) ⊎ ((depth_of p ≡ 0) × (p.at ≡ length rs))
 
 -- a position before a statement of its innermost body
 pub record Held (rs : Recs) (p : Position) : Type 0 where
-  pub inside : Inside rs p.levels p.depth p.at
-  pub eight : length p.levels ≡ 8
-  pub before : p.at < body_end rs p.levels p.depth
-
--- the position with another level of index d
-abbrev pub with_level : Position → ℕ → Level → Position
-with_level p d l = position_of p.at p.depth (slice_set p.levels d l)
+  pub inside : Inside rs (levels_of p) (depth_of p) p.at
+  pub before : p.at < body_end rs (levels_of p) (depth_of p)
 
 -- a level opened at the position's statement, with n rounds left after the present one, and the position before its body
 abbrev pub opened : Position → ℕ → Position
-opened p n = position_of (suc p.at) (suc p.depth) (slice_set p.levels p.depth (level_of p.at n))
+opened p n = position_of (suc p.at) (levels_of p ++ level_of p.at n ∷ [])
 
 -- what a WHILE leaves, by what its register holds: b is its body, p what is behind it
 abbrev pub leaves_while : ℕ → ℕ → Sheet → Sheet → Sheet
@@ -101,7 +102,7 @@ leaves While v i b p = leaves_while v i b p
 
 -- what is left once the position's statement and its body are done
 abbrev pub rest_behind : Recs → Position → Sheet
-rest_behind rs p = rest_in rs p.levels p.depth (at rs p.at).end
+rest_behind rs p = rest_in rs (levels_of p) (depth_of p) (at rs p.at).end
 
 -- what is left after the step of the position's statement, whose source held v
 abbrev pub rest_after : Recs → Position → ℕ → Sheet

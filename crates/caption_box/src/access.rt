@@ -1,5 +1,6 @@
 // Reading and writing the numbers of any store.
 ghost use Rattle.std.specs.Prelude.{◌≡◌, ◌+◌, ◌≤◌, cond, nat_le, slice_index, slice_set};
+ghost use Rattle.caption_box.specs.Left.{Leaves};
 ghost use Rattle.caption_box.specs.declared.types.State.TheVariants.{Over, Time};
 
 use crate::types::State;
@@ -15,8 +16,7 @@ pub(crate) fn get<S: Store>(store: &S, i: usize) -> u32
 // Puts v, which is not above the top, at i; past the last number nothing changes.
 pub(crate) fn put<S: Store>(store: &mut S, i: usize, v: u32)
     requires { v ≤ S.Store.limit store.old }
-    ensures top { S.Store.limit store.new ≡ S.Store.limit store.old }
-    ensures put { S.Store.numbers store.new ≡ slice_set (S.Store.numbers store.old) i v }
+    ensures { Leaves S.Store store.old (slice_set (S.Store.numbers store.old) i v) store.new }
 {
     let _ = store.write(i, v);
 }

@@ -9,9 +9,10 @@ use stores::store::Store;
 // How many registers a sheet can name: x0 to x31.
 pub(crate) const NAMED: usize = 32;
 
-// The longest tick, and the most that a tick may raise a tally to.
+// The longest tick.
 const LONGEST_TICK: u32 = 4_096;
 
+// The most that a tick may raise a tally to: 2 ^ 40.
 const LARGEST_TALLY: u64 = 1_099_511_627_776;
 
 // Refuses a store with fewer than n numbers.

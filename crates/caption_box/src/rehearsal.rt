@@ -4,31 +4,9 @@ mod running;
 mod stepping;
 mod walking;
 
+use counting::WrittenTallies;
 use reader::types::{Placed, Statement};
-
-// An open level: the index of its LOOP or WHILE, and for a LOOP the rounds left after the present one.
-#[derive(Clone, Copy)]
-struct Level {
-    head: usize,
-    left: u32,
-}
-
-// Where a rehearsal stands: the index of the next statement, and the open levels, the outermost first.
-#[derive(Clone, Copy)]
-struct Position {
-    at: usize,
-    depth: usize,
-    levels: [Level; 8],
-}
-
-// The four tallies of a rehearsal. LOOP rounds grow by whole register values.
-#[derive(Clone, Copy, Default)]
-struct WrittenTallies {
-    written: u64,
-    entered: u64,
-    rounds: u128,
-    whiles: u64,
-}
+use walking::Position;
 
 // A rehearsal: a written run of the sheet of the records, which it borrows until it is put away. Its registers are in a
 // store that each call is given.

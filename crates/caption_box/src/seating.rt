@@ -1,5 +1,6 @@
 // The beginning of a run: inputs into the registers.
 ghost use Rattle.std.specs.Prelude.{◌≡◌, ◌≤◌, true, ◌++◌, length, drop};
+ghost use Rattle.caption_box.specs.Left.{Leaves};
 ghost use Rattle.caption_box.specs.Seats.{all_below, entered as entered_in, input_at};
 ghost use Rattle.caption_box.specs.Calls.{seats, seated};
 
@@ -29,8 +30,7 @@ fn input(inputs: &[u32], i: usize) -> u32
 fn fill<S: Store>(n: usize, store: &mut S, inputs: &[u32])
     requires room { n ≤ length (S.Store.numbers store.old) }
     requires fit { all_below (S.Store.limit store.old) inputs.now ≡ true }
-    ensures top { S.Store.limit store.new ≡ S.Store.limit store.old }
-    ensures filled { S.Store.numbers store.new ≡ entered_in n inputs.now ++ drop n (S.Store.numbers store.old) }
+    ensures { Leaves S.Store store.old (entered_in n inputs.now ++ drop n (S.Store.numbers store.old)) store.new }
 {
     for i in 0..n {
         put(store, i, input(inputs, i));
@@ -39,9 +39,8 @@ fn fill<S: Store>(n: usize, store: &mut S, inputs: &[u32])
 
 // Puts a run that needs n registers to its beginning, unless the store or the inputs are refused.
 pub(crate) fn seat<S: Store>(n: usize, store: &mut S, inputs: &[u32]) -> Result<(), Refusal>
-    ensures top { S.Store.limit store.new ≡ S.Store.limit store.old }
     ensures answer { result ≡ seats n (S.Store.limit store.old) (S.Store.numbers store.old) inputs.now }
-    ensures numbers { S.Store.numbers store.new ≡ seated n (S.Store.limit store.old) (S.Store.numbers store.old) inputs.now }
+    ensures left { Leaves S.Store store.old (seated n (S.Store.limit store.old) (S.Store.numbers store.old) inputs.now) store.new }
 {
     check_width(store, n)?;
     if inputs.len() >= NAMED {

@@ -51,7 +51,8 @@ fn number_at(bytes: &[u8], at: usize) -> u32
     number
 }
 
-// The six digits of v, the highest first.
+// The six digits of v, the highest first. Each is a division by a constant; a map over the places would divide by a
+// variable.
 fn digits_of(v: u32) -> [u8; 6]
     requires { v ≤ TOP }
     ensures { result ≡ v / 100000 ∷ v / 10000 % 10 ∷ v / 1000 % 10 ∷ v / 100 % 10 ∷ v / 10 % 10 ∷ v % 10 ∷ [] }

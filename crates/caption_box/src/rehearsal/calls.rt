@@ -3,10 +3,13 @@
 ghost use Rattle.std.specs.Prelude.{◌≡◌, Ok, Err, IfOk, MatchResult};
 ghost use Rattle.caption_box.specs.declared.types.Question.TheVariants.{Register};
 ghost use Rattle.caption_box.specs.WrittenCalls.{written_outcome, written_ticks, written_rewinds, written_corrects, written_asks};
+ghost use Rattle.caption_box.specs.Left.{Leaves};
 ghost use Rattle.caption_box.specs.Calls.{seats, seated};
-ghost use Rattle.caption_box.specs.Rehearsals.{AtFirst, written_scene_of, Rehearsed, WrittenStarted, WrittenUnstarted};
+ghost use Rattle.caption_box.specs.Rehearsals.{AtFirst, written_scene_on, Rehearsed, WrittenStarted, WrittenUnstarted};
 
-use super::{Position, Rehearsal, WrittenTallies};
+use super::Rehearsal;
+use super::counting::WrittenTallies;
+use super::walking::Position;
 use crate::guards::{NAMED, check_register, check_tick, check_width, register};
 use crate::seating::seat;
 use crate::types::{Question, Ticked};
@@ -24,7 +27,7 @@ impl<'a> Rehearsal<'a> {
         ensures top { S.Store.limit store.new ≡ S.Store.limit store.old }
         ensures same { IfOk result (λ s. s.records ≡ records.entry) }
         ensures exact { MatchResult result
-            (λ s. WrittenStarted records.now (S.Store.limit store.old) (S.Store.numbers store.old) inputs.now s (written_scene_of s (S.Store.numbers store.new) (S.Store.limit store.new)))
+            (λ s. WrittenStarted records.now (S.Store.limit store.old) (S.Store.numbers store.old) inputs.now s (written_scene_on S.Store s store.new))
             (λ e. WrittenUnstarted records.now (S.Store.limit store.old) (S.Store.numbers store.old) inputs.now e (S.Store.numbers store.new)) }
     {
         if !is_sheet(records) {
@@ -39,8 +42,7 @@ impl<'a> Rehearsal<'a> {
         store: &mut S,
         inputs: &[u32],
     ) -> Result<Rehearsal<'a>, Refusal>
-        ensures top { S.Store.limit store.new ≡ S.Store.limit store.old }
-        ensures numbers { S.Store.numbers store.new ≡ seated 32 (S.Store.limit store.old) (S.Store.numbers store.old) inputs.now }
+        ensures left { Leaves S.Store store.old (seated 32 (S.Store.limit store.old) (S.Store.numbers store.old) inputs.now) store.new }
         ensures answer { MatchResult result
             (λ s. (s.records ≡ records.entry) × AtFirst s × (seats 32 (S.Store.limit store.old) (S.Store.numbers store.old) inputs.now ≡ Ok tt))
             (λ e. seats 32 (S.Store.limit store.old) (S.Store.numbers store.old) inputs.now ≡ Err e) }
@@ -48,7 +50,7 @@ impl<'a> Rehearsal<'a> {
         seat(NAMED, store, inputs)?;
         Ok(Rehearsal {
             records,
-            position: Position::first(),
+            position: Position::default(),
             tallies: WrittenTallies::default(),
         })
     }
@@ -58,7 +60,7 @@ impl<'a> Rehearsal<'a> {
         ensures top { S.Store.limit store.new ≡ S.Store.limit store.old }
         ensures same { self.new.records ≡ self.old.records }
         ensures kept { Rehearsed self.old → Rehearsed self.new }
-        ensures exact { Rehearsed self.old → written_outcome result (written_scene_of self.new (S.Store.numbers store.new) (S.Store.limit store.new)) ≡ written_ticks (written_scene_of self.old (S.Store.numbers store.old) (S.Store.limit store.old)) k }
+        ensures exact { Rehearsed self.old → written_outcome result (written_scene_on S.Store self.new store.new) ≡ written_ticks (written_scene_on S.Store self.old store.old) k }
     {
         check_width(store, NAMED)?;
         check_tick(k, self.tallies.written)?;
@@ -69,7 +71,7 @@ impl<'a> Rehearsal<'a> {
     pub fn rewind<S: Store>(&mut self, store: &mut S, inputs: &[u32]) -> Result<(), Refusal>
         ensures same { self.new.records ≡ self.old.records }
         ensures kept { Rehearsed self.old → Rehearsed self.new }
-        ensures exact { written_outcome result (written_scene_of self.new (S.Store.numbers store.new) (S.Store.limit store.new)) ≡ written_rewinds (written_scene_of self.old (S.Store.numbers store.old) (S.Store.limit store.old)) inputs.now }
+        ensures exact { written_outcome result (written_scene_on S.Store self.new store.new) ≡ written_rewinds (written_scene_on S.Store self.old store.old) inputs.now }
     {
         *self = Rehearsal::begin(self.records, store, inputs)?;
         Ok(())
@@ -84,7 +86,7 @@ impl<'a> Rehearsal<'a> {
     ) -> Result<(), Refusal>
         ensures same { self.new ≡ self.old }
         ensures kept { Rehearsed self.old → Rehearsed self.new }
-        ensures exact { written_outcome result (written_scene_of self.new (S.Store.numbers store.new) (S.Store.limit store.new)) ≡ written_corrects (written_scene_of self.old (S.Store.numbers store.old) (S.Store.limit store.old)) register value }
+        ensures exact { written_outcome result (written_scene_on S.Store self.new store.new) ≡ written_corrects (written_scene_on S.Store self.old store.old) register value }
     {
         check_width(store, NAMED)?;
         check_register(register)?;
@@ -93,7 +95,7 @@ impl<'a> Rehearsal<'a> {
 
     // One of x0 to x31, or a tally; box steps are 0.
     pub fn ask<S: Store>(&self, store: &S, question: Question) -> Result<u128, Refusal>
-        ensures { result ≡ written_asks (written_scene_of self.now (S.Store.numbers store.now) (S.Store.limit store.now)) question }
+        ensures { result ≡ written_asks (written_scene_on S.Store self.now store.now) question }
     {
         check_width(store, NAMED)?;
         match question {
@@ -104,7 +106,7 @@ impl<'a> Rehearsal<'a> {
 
     // The line on the screen, x0.
     pub fn line<S: Store>(&self, store: &S) -> Result<u128, Refusal>
-        ensures { result ≡ written_asks (written_scene_of self.now (S.Store.numbers store.now) (S.Store.limit store.now)) (Register 0) }
+        ensures { result ≡ written_asks (written_scene_on S.Store self.now store.now) (Register 0) }
     {
         self.ask(store, Question::Register(0))
     }

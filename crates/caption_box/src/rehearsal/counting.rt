@@ -1,13 +1,22 @@
-// The tallies of a rehearsal.
-ghost use Rattle.std.specs.Prelude.{◌≡◌, ℕ, suc, ◌<◌, ◌≤◌};
-ghost use Rattle.caption_box.specs.WrittenSteps.{written_counted, Counted};
-ghost use Rattle.caption_box.specs.Rehearsals.{written_counts, written_tally};
+ghost use Rattle.std.specs.Prelude.{◌≡◌, suc, ◌<◌, ◌≤◌};
 
-use super::WrittenTallies;
 use crate::types::Tally;
 use reader::types::Kind;
 
+// The four tallies of a rehearsal. LOOP rounds grow by whole register values, so they are wider than those of a show, and
+// each step raises other tallies: one type for both would share no more than the names.
+#[derive(Clone, Copy, Default)]
+pub(super) struct WrittenTallies {
+    pub(super) written: u64,
+    entered: u64,
+    rounds: u128,
+    whiles: u64,
+}
+
 impl WrittenTallies {
+    ghost use Rattle.caption_box.specs.WrittenSteps.{written_counted, Counted};
+    ghost use Rattle.caption_box.specs.Rehearsals.{written_counts, written_tally};
+
     // The tally that is asked for.
     pub(super) fn get(&self, tally: Tally) -> u128
         ensures { result ≡ written_tally self.now tally }

@@ -32,7 +32,7 @@ impl<'a> Rehearsal<'a> {
         if state == State::Time {
             let found = perform(statement, store);
             self.tallies.raise(statement.kind, found);
-            self.position = self.position.moved(self.records, statement.kind, found);
+            self.position.go_on(self.records, statement.kind, found);
         }
         state
     }

@@ -1,6 +1,7 @@
 // One written step of a statement over a store.
 ghost use Rattle.std.specs.Prelude.{◌≡◌};
 ghost use Rattle.caption_box.specs.declared.types.State.TheVariants.{Time};
+ghost use Rattle.caption_box.specs.Left.{Leaves};
 ghost use Rattle.caption_box.specs.WrittenSteps.{found_in, written_fate, written_stored};
 
 use crate::access::{get, plus_fate, put};
@@ -26,8 +27,7 @@ pub(super) fn fate<S: Store>(statement: Statement, store: &S) -> State
 // Does to the registers what a statement that can be done does, and tells what its source held.
 pub(super) fn perform<S: Store>(statement: Statement, store: &mut S) -> u32
     requires { written_fate (S.Store.limit store.old) (S.Store.numbers store.old) statement ≡ Time }
-    ensures top { S.Store.limit store.new ≡ S.Store.limit store.old }
-    ensures stored { S.Store.numbers store.new ≡ written_stored statement.kind (S.Store.numbers store.old) statement }
+    ensures left { Leaves S.Store store.old (written_stored statement.kind (S.Store.numbers store.old) statement) store.new }
     ensures found { result ≡ found_in (S.Store.numbers store.old) statement }
 {
     let found = get(store, statement.source);

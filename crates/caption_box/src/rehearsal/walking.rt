@@ -1,9 +1,8 @@
-// Where a rehearsal goes in its records. The levels stand in an array of eight, and nothing of a body is copied.
-ghost use Rattle.std.specs.Prelude.{◌≡◌, ℕ, ◌<◌, length};
+// Where a rehearsal goes in its records. Nothing of a body is copied.
+ghost use Rattle.std.specs.Prelude.{◌≡◌, ◌<◌};
 ghost use Rattle.reader.specs.Checks.{at as record_in, IsSheet};
-ghost use Rattle.caption_box.specs.Rests.{level_at, body_end, with_level, opened as opened_at, Held, Reaches, rest_behind, rest_after};
 
-use super::{Level, Position};
+use arrayvec::ArrayVec;
 use reader::next_sibling;
 use reader::types::{Kind, Placed, Statement, ZERO_RECORD};
 
@@ -11,131 +10,80 @@ use reader::types::{Kind, Placed, Statement, ZERO_RECORD};
 pub(super) fn record_at(records: &[Placed<Statement>], i: usize) -> Statement
     ensures { result ≡ record_in records.now i }
 {
-    if i < records.len() {
-        records[i].item
-    } else {
-        ZERO_RECORD.item
-    }
+    records.get(i).copied().unwrap_or(ZERO_RECORD).item
+}
+
+// An open level: the index of its LOOP or WHILE, and for a LOOP the rounds left after the present one.
+#[derive(Clone, Copy, Default)]
+struct Level {
+    head: usize,
+    left: u32,
+}
+
+// Where a rehearsal stands: the index of the next statement, and the open levels, the outermost first. By default it
+// stands before the first statement, with no open level.
+#[derive(Default, Drop)]
+pub(super) struct Position {
+    pub(super) at: usize,
+    levels: ArrayVec<Level, 8>,
 }
 
 impl Position {
-    // Before the first statement, with no open level.
-    pub(super) fn first() -> Position
-        ensures index { result.at ≡ 0 }
-        ensures depth { result.depth ≡ 0 }
-        ensures levels { length result.levels ≡ 8 }
-    {
-        Position {
-            at: 0,
-            depth: 0,
-            levels: [Level { head: 0, left: 0 }; 8],
-        }
-    }
-
-    // The level of index d, and a zero level past the last.
-    fn level(self, d: usize) -> Level
-        ensures { result ≡ level_at self.levels d }
-    {
-        if d < 8 {
-            self.levels[d]
-        } else {
-            Level { head: 0, left: 0 }
-        }
-    }
-
-    // With another level of index d, if there is one.
-    fn with_level(self, d: usize, level: Level) -> Position
-        ensures { result ≡ with_level self d level }
-    {
-        let mut after = self;
-        if d < 8 {
-            after.levels[d] = level;
-        }
-        after
-    }
+    ghost use Rattle.caption_box.specs.Rests.{levels_of, depth_of, body_end, opened, Held, Reaches, rest_behind, rest_after};
 
     // The index after the innermost open body.
-    fn body_end(self, records: &[Placed<Statement>]) -> usize
-        ensures { result ≡ body_end records.now self.levels self.depth }
+    fn body_end(&self, records: &[Placed<Statement>]) -> usize
+        ensures { result ≡ body_end records.now (levels_of self.now) (depth_of self.now) }
     {
-        if self.depth == 0 {
-            records.len()
-        } else {
-            record_at(records, self.level(self.depth - 1).head).end
+        match self.levels.last() {
+            Some(level) => record_at(records, level.head).end,
+            None => records.len(),
         }
     }
 
-    // Before the body of its statement, in a level of its own.
-    fn opened(self, left: u32) -> Position
-        ensures { self.depth < 8 → self.at < 256 → result ≡ opened_at self left }
+    // Before the body of its statement, in a level of its own. A sheet opens no more than eight.
+    fn open(&mut self, left: u32)
+        ensures { depth_of self.old < 8 → self.old.at < 256 → self.new ≡ opened self.old left }
     {
-        let level = Level {
-            head: self.at,
-            left,
-        };
-        let mut after = self.with_level(self.depth, level);
-        after.depth = self.depth.saturating_add(1);
-        after.at = self.at.saturating_add(1);
-        after
+        let head = self.at;
+        let _ = self.levels.try_push(Level { head, left });
+        self.at = head.saturating_add(1);
     }
 
     // Behind its statement, which is done: a level whose body has ended goes round again or is closed.
-    fn left_behind(self, records: &[Placed<Statement>]) -> Position
-        ensures { IsSheet records.now → Held records.now self → Reaches records.now result (rest_behind records.now self) }
+    fn leave(&mut self, records: &[Placed<Statement>])
+        ensures { IsSheet records.now → Held records.now self.old → Reaches records.now self.new (rest_behind records.now self.old) }
     {
-        let mut after = self;
         loop {
-            let end = after.body_end(records);
-            if let Some(next) = next_sibling(records, after.at, end) {
-                after.at = next;
-                return after;
+            let end = self.body_end(records);
+            if let Some(next) = next_sibling(records, self.at, end) {
+                self.at = next;
+                return;
             }
-            if after.depth == 0 {
-                after.at = records.len();
-                return after;
-            }
-            let outer = after.depth - 1;
-            let level = after.level(outer);
+            let Some(level) = self.levels.pop() else {
+                self.at = records.len();
+                return;
+            };
+            self.at = level.head;
             if record_at(records, level.head).kind == Kind::While {
-                after.depth = outer;
-                after.at = level.head;
-                return after;
+                return;
             }
             if level.left > 0 {
-                let round = Level {
-                    head: level.head,
-                    left: level.left - 1,
-                };
-                after = after.with_level(outer, round);
-                after.at = level.head.saturating_add(1);
-                return after;
+                self.open(level.left - 1);
+                return;
             }
-            after.depth = outer;
-            after.at = level.head;
         }
     }
 
     // After the step of its statement, which is of that kind and whose source held `found`.
-    pub(super) fn moved(self, records: &[Placed<Statement>], kind: Kind, found: u32) -> Position
-        ensures { IsSheet records.now → Held records.now self → kind ≡ (record_in records.now self.at).kind
-            → Reaches records.now result (rest_after records.now self found) }
+    pub(super) fn go_on(&mut self, records: &[Placed<Statement>], kind: Kind, found: u32)
+        ensures { IsSheet records.now → Held records.now self.old → kind ≡ (record_in records.now self.old.at).kind
+            → Reaches records.now self.new (rest_after records.now self.old found) }
     {
         match kind {
-            Kind::Loop => {
-                if found == 0 {
-                    self.left_behind(records)
-                } else {
-                    self.opened(found - 1)
-                }
-            }
-            Kind::While => {
-                if found == 0 {
-                    self.left_behind(records)
-                } else {
-                    self.opened(0)
-                }
-            }
-            _ => self.left_behind(records),
+            Kind::Loop if found > 0 => self.open(found - 1),
+            Kind::While if found > 0 => self.open(0),
+            _ => self.leave(records),
         }
     }
 }

@@ -8,7 +8,7 @@ ghost use Rattle.translator.specs.declared.types.Flat.{Flat};
 ghost use Rattle.translator.specs.Loading.{Loaded};
 ghost use Rattle.caption_box.specs.declared.types.Question.TheVariants.{Register};
 ghost use Rattle.caption_box.specs.Calls.{outcome, ticks, rewinds, corrects, asks, Started, Unstarted};
-ghost use Rattle.caption_box.specs.Shows.{code_setting, setting_of, box_of, scene_of};
+ghost use Rattle.caption_box.specs.Shows.{code_setting, setting_on, box_on, scene_on};
 ghost use Rattle.caption_box.specs.GotoRuns.{GotoTick};
 ghost use Rattle.caption_box.specs.History.{Plays, History.started as started_with, Call.tick_call, Call.correct_call, Call.rewind_call, Call.ask_call, add_tick, add_correct, add_rewind, add_ask};
 ghost use Rattle.caption_box.specs.Claim.{Follows, Carries, CarriesRefused, LineFollows};
@@ -32,12 +32,12 @@ impl<'c> Show<'c> {
         ensures top { S.Store.limit store.new ≡ S.Store.limit store.old }
         ensures code { MatchResult result (λ s. s.sealed ≡ sealed.entry) (λ e. e.sealed ≡ sealed.entry) }
         ensures exact { MatchResult result
-            (λ s. Started (code_setting sealed.entry (S.Store.limit store.old)) (S.Store.numbers store.old) inputs.now (scene_of s (S.Store.numbers store.new) (S.Store.limit store.new)))
+            (λ s. Started (code_setting sealed.entry (S.Store.limit store.old)) (S.Store.numbers store.old) inputs.now (scene_on S.Store s store.new))
             (λ e. Unstarted (code_setting sealed.entry (S.Store.limit store.old)) (S.Store.numbers store.old) inputs.now e.refusal (S.Store.numbers store.new)) }
         ensures follows { (p : Sheet) → Plays p (code_setting sealed.entry (S.Store.limit store.old))
-            → IfOk result (λ s. Follows p (started_with inputs.now) (scene_of s (S.Store.numbers store.new) (S.Store.limit store.new))) }
+            → IfOk result (λ s. Follows p (started_with inputs.now) (scene_on S.Store s store.new)) }
         ensures loaded { (text : List ℕ) (n f c : ℕ) (rs : List (Placed Statement)) (fs : List (Placed Flat)) (l : Loaded text n f c rs fs sealed.entry)
-            → IfOk result (λ s. Follows l.sheet (started_with inputs.now) (scene_of s (S.Store.numbers store.new) (S.Store.limit store.new))) }
+            → IfOk result (λ s. Follows l.sheet (started_with inputs.now) (scene_on S.Store s store.new)) }
     {
         match seat(sealed.registers(), store, inputs) {
             Ok(()) => Ok(Show {
@@ -52,7 +52,7 @@ impl<'c> Show<'c> {
     // A call with several returns has this private part, so that what follows from `exact` is shown once.
     fn tick_exactly<S: Store>(&mut self, store: &mut S, k: u32) -> Result<Ticked, Refusal>
         ensures code { self.new.sealed ≡ self.old.sealed }
-        ensures exact { outcome result (scene_of self.new (S.Store.numbers store.new) (S.Store.limit store.new)) ≡ ticks (scene_of self.old (S.Store.numbers store.old) (S.Store.limit store.old)) k }
+        ensures exact { outcome result (scene_on S.Store self.new store.new) ≡ ticks (scene_on S.Store self.old store.old) k }
     {
         check_width(store, self.sealed.registers())?;
         check_tick(k, self.tallies.largest())?;
@@ -62,9 +62,9 @@ impl<'c> Show<'c> {
     // Does up to k steps; the answer says how many, and how the show then stands.
     pub fn tick<S: Store>(&mut self, store: &mut S, k: u32) -> Result<Ticked, Refusal>
         ensures code { self.new.sealed ≡ self.old.sealed }
-        ensures exact { outcome result (scene_of self.new (S.Store.numbers store.new) (S.Store.limit store.new)) ≡ ticks (scene_of self.old (S.Store.numbers store.old) (S.Store.limit store.old)) k }
-        ensures published { IfOk result (λ t. GotoTick (setting_of self.old (S.Store.limit store.old)) k (box_of self.old (S.Store.numbers store.old)) t (box_of self.new (S.Store.numbers store.new))) }
-        ensures follows { Carries (scene_of self.old (S.Store.numbers store.old) (S.Store.limit store.old)) (add_tick k result self.new.tallies.written) (scene_of self.new (S.Store.numbers store.new) (S.Store.limit store.new)) }
+        ensures exact { outcome result (scene_on S.Store self.new store.new) ≡ ticks (scene_on S.Store self.old store.old) k }
+        ensures published { IfOk result (λ t. GotoTick (setting_on S.Store self.old store.old) k (box_on S.Store self.old store.old) t (box_on S.Store self.new store.new)) }
+        ensures follows { Carries (scene_on S.Store self.old store.old) (add_tick k result self.new.tallies.written) (scene_on S.Store self.new store.new) }
         ensures aside { CarriesRefused (tick_call k) result self.old self.new }
     {
         self.tick_exactly(store, k)
@@ -72,7 +72,7 @@ impl<'c> Show<'c> {
 
     fn rewind_exactly<S: Store>(&mut self, store: &mut S, inputs: &[u32]) -> Result<(), Refusal>
         ensures code { self.new.sealed ≡ self.old.sealed }
-        ensures exact { outcome result (scene_of self.new (S.Store.numbers store.new) (S.Store.limit store.new)) ≡ rewinds (scene_of self.old (S.Store.numbers store.old) (S.Store.limit store.old)) inputs.now }
+        ensures exact { outcome result (scene_on S.Store self.new store.new) ≡ rewinds (scene_on S.Store self.old store.old) inputs.now }
     {
         seat(self.sealed.registers(), store, inputs)?;
         self.next = 0;
@@ -83,8 +83,8 @@ impl<'c> Show<'c> {
     // Puts the show to its beginning again.
     pub fn rewind<S: Store>(&mut self, store: &mut S, inputs: &[u32]) -> Result<(), Refusal>
         ensures code { self.new.sealed ≡ self.old.sealed }
-        ensures exact { outcome result (scene_of self.new (S.Store.numbers store.new) (S.Store.limit store.new)) ≡ rewinds (scene_of self.old (S.Store.numbers store.old) (S.Store.limit store.old)) inputs.now }
-        ensures follows { Carries (scene_of self.old (S.Store.numbers store.old) (S.Store.limit store.old)) (add_rewind inputs.now result) (scene_of self.new (S.Store.numbers store.new) (S.Store.limit store.new)) }
+        ensures exact { outcome result (scene_on S.Store self.new store.new) ≡ rewinds (scene_on S.Store self.old store.old) inputs.now }
+        ensures follows { Carries (scene_on S.Store self.old store.old) (add_rewind inputs.now result) (scene_on S.Store self.new store.new) }
         ensures aside { CarriesRefused (rewind_call inputs.now) result self.old self.new }
     {
         self.rewind_exactly(store, inputs)
@@ -97,7 +97,7 @@ impl<'c> Show<'c> {
         value: u32,
     ) -> Result<(), Refusal>
         ensures code { self.new.sealed ≡ self.old.sealed }
-        ensures exact { outcome result (scene_of self.new (S.Store.numbers store.new) (S.Store.limit store.new)) ≡ corrects (scene_of self.old (S.Store.numbers store.old) (S.Store.limit store.old)) register value }
+        ensures exact { outcome result (scene_on S.Store self.new store.new) ≡ corrects (scene_on S.Store self.old store.old) register value }
     {
         check_width(store, self.sealed.registers())?;
         check_register(register)?;
@@ -112,15 +112,15 @@ impl<'c> Show<'c> {
         value: u32,
     ) -> Result<(), Refusal>
         ensures code { self.new.sealed ≡ self.old.sealed }
-        ensures exact { outcome result (scene_of self.new (S.Store.numbers store.new) (S.Store.limit store.new)) ≡ corrects (scene_of self.old (S.Store.numbers store.old) (S.Store.limit store.old)) register value }
-        ensures follows { Carries (scene_of self.old (S.Store.numbers store.old) (S.Store.limit store.old)) (add_correct register value result) (scene_of self.new (S.Store.numbers store.new) (S.Store.limit store.new)) }
+        ensures exact { outcome result (scene_on S.Store self.new store.new) ≡ corrects (scene_on S.Store self.old store.old) register value }
+        ensures follows { Carries (scene_on S.Store self.old store.old) (add_correct register value result) (scene_on S.Store self.new store.new) }
         ensures aside { CarriesRefused (correct_call register value) result self.old self.new }
     {
         self.correct_exactly(store, register, value)
     }
 
     fn ask_exactly<S: Store>(&self, store: &S, question: Question) -> Result<u64, Refusal>
-        ensures { result ≡ asks (scene_of self.now (S.Store.numbers store.now) (S.Store.limit store.now)) question }
+        ensures { result ≡ asks (scene_on S.Store self.now store.now) question }
     {
         check_width(store, self.sealed.registers())?;
         match question {
@@ -131,8 +131,8 @@ impl<'c> Show<'c> {
 
     // One of x0 to x31, or a tally.
     pub fn ask<S: Store>(&self, store: &S, question: Question) -> Result<u64, Refusal>
-        ensures exact { result ≡ asks (scene_of self.now (S.Store.numbers store.now) (S.Store.limit store.now)) question }
-        ensures follows { Carries (scene_of self.now (S.Store.numbers store.now) (S.Store.limit store.now)) (add_ask question result) (scene_of self.now (S.Store.numbers store.now) (S.Store.limit store.now)) }
+        ensures exact { result ≡ asks (scene_on S.Store self.now store.now) question }
+        ensures follows { Carries (scene_on S.Store self.now store.now) (add_ask question result) (scene_on S.Store self.now store.now) }
         ensures aside { CarriesRefused (ask_call question) result self.now self.now }
     {
         self.ask_exactly(store, question)
@@ -141,8 +141,8 @@ impl<'c> Show<'c> {
     // The line on the screen, x0. For any history that led here it is the line of the written sheet, and all that is
     // claimed of a show holds: this is the call that a program makes to know it.
     pub fn line<S: Store>(&self, store: &S) -> Result<u64, Refusal>
-        ensures exact { result ≡ asks (scene_of self.now (S.Store.numbers store.now) (S.Store.limit store.now)) (Register 0) }
-        ensures follows { LineFollows (scene_of self.now (S.Store.numbers store.now) (S.Store.limit store.now)) result }
+        ensures exact { result ≡ asks (scene_on S.Store self.now store.now) (Register 0) }
+        ensures follows { LineFollows (scene_on S.Store self.now store.now) result }
     {
         self.ask_exactly(store, Question::Register(0))
     }

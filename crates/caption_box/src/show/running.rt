@@ -1,8 +1,8 @@
 // The steps of a show.
 ghost use Rattle.std.specs.Prelude.{◌≡◌, ◌+◌, ◌<◌, ◌≤◌};
 ghost use Rattle.caption_box.specs.Tallies.{largest_of};
-ghost use Rattle.caption_box.specs.Calls.{step as step_of, state_of, onward, tick_box, tick_steps, tick_state};
-ghost use Rattle.caption_box.specs.Shows.{setting_of, box_of};
+ghost use Rattle.caption_box.specs.Calls.{scene, step as step_of, state_of, onward, tick_box, tick_steps, tick_state};
+ghost use Rattle.caption_box.specs.Shows.{setting_on, box_on, scene_on};
 
 use super::Show;
 use super::stepping::{fate, perform};
@@ -12,7 +12,7 @@ use stores::store::Store;
 impl<'c> Show<'c> {
     // How the show stands on the store.
     fn look<S: Store>(&self, store: &S) -> State
-        ensures { result ≡ state_of (step_of (setting_of self.now (S.Store.limit store.now)) (box_of self.now (S.Store.numbers store.now))) }
+        ensures { result ≡ state_of (step_of (setting_on S.Store self.now store.now) (box_on S.Store self.now store.now)) }
     {
         match self.sealed.get(self.next) {
             Some(instruction) => fate(
@@ -29,9 +29,8 @@ impl<'c> Show<'c> {
     fn step<S: Store>(&mut self, store: &mut S) -> State
         requires { largest_of self.old.tallies < 1099511627776 }
         ensures code { self.new.sealed ≡ self.old.sealed }
-        ensures top { S.Store.limit store.new ≡ S.Store.limit store.old }
-        ensures state { result ≡ state_of (step_of (setting_of self.old (S.Store.limit store.old)) (box_of self.old (S.Store.numbers store.old))) }
-        ensures moved { box_of self.new (S.Store.numbers store.new) ≡ onward (step_of (setting_of self.old (S.Store.limit store.old)) (box_of self.old (S.Store.numbers store.old))) (box_of self.old (S.Store.numbers store.old)) }
+        ensures state { result ≡ state_of (step_of (setting_on S.Store self.old store.old) (box_on S.Store self.old store.old)) }
+        ensures moved { scene_on S.Store self.new store.new ≡ scene (setting_on S.Store self.old store.old) (onward (step_of (setting_on S.Store self.old store.old) (box_on S.Store self.old store.old)) (box_on S.Store self.old store.old)) }
     {
         let Some(instruction) = self.sealed.get(self.next) else {
             return State::Unfit;
@@ -51,10 +50,9 @@ impl<'c> Show<'c> {
     pub(super) fn go<S: Store>(&mut self, store: &mut S, k: u32) -> Ticked
         requires { largest_of self.old.tallies + k ≤ 1099511627776 }
         ensures code { self.new.sealed ≡ self.old.sealed }
-        ensures top { S.Store.limit store.new ≡ S.Store.limit store.old }
-        ensures moved { box_of self.new (S.Store.numbers store.new) ≡ tick_box (setting_of self.old (S.Store.limit store.old)) k (box_of self.old (S.Store.numbers store.old)) }
-        ensures steps { result.steps ≡ tick_steps (setting_of self.old (S.Store.limit store.old)) k (box_of self.old (S.Store.numbers store.old)) }
-        ensures state { result.state ≡ tick_state (setting_of self.old (S.Store.limit store.old)) k (box_of self.old (S.Store.numbers store.old)) }
+        ensures moved { scene_on S.Store self.new store.new ≡ scene (setting_on S.Store self.old store.old) (tick_box (setting_on S.Store self.old store.old) k (box_on S.Store self.old store.old)) }
+        ensures steps { result.steps ≡ tick_steps (setting_on S.Store self.old store.old) k (box_on S.Store self.old store.old) }
+        ensures state { result.state ≡ tick_state (setting_on S.Store self.old store.old) k (box_on S.Store self.old store.old) }
     {
         for steps in 0..k {
             let state = self.step(store);

@@ -1,7 +1,8 @@
 // One step of an operation over a store.
-ghost use Rattle.std.specs.Prelude.{◌≡◌, suc, ◌<◌};
+ghost use Rattle.std.specs.Prelude.{◌≡◌, suc, ◌<◌, false};
 ghost use Rattle.translator.specs.JumpCode.{inside, fits as fit};
 ghost use Rattle.caption_box.specs.declared.types.State.TheVariants.{Time};
+ghost use Rattle.caption_box.specs.Left.{Leaves};
 ghost use Rattle.caption_box.specs.Stepping.{fate as fate_of, stored as stored_by, label_after, finds_more};
 
 use crate::access::{get, plus_fate, put};
@@ -56,6 +57,16 @@ pub(super) struct Moved {
     pub(super) found: bool,
 }
 
+impl Moved {
+    // To an index, by no such test.
+    fn to(next: usize) -> Moved
+        ensures next { result.next ≡ next }
+        ensures found { result.found ≡ false }
+    {
+        Moved { next, found: false }
+    }
+}
+
 // Does an operation that can be done; it stands at the index `at`.
 pub(super) fn perform<S: Store>(
     operation: Operation,
@@ -66,16 +77,12 @@ pub(super) fn perform<S: Store>(
 ) -> Moved
     requires inside { at < size }
     requires time { fate_of (S.Store.limit store.old) n size (S.Store.numbers store.old) operation ≡ Time }
-    ensures top { S.Store.limit store.new ≡ S.Store.limit store.old }
-    ensures stored { S.Store.numbers store.new ≡ stored_by (S.Store.numbers store.old) operation }
+    ensures left { Leaves S.Store store.old (stored_by (S.Store.numbers store.old) operation) store.new }
     ensures next { suc result.next ≡ label_after (S.Store.numbers store.old) (suc at) operation }
     ensures found { result.found ≡ finds_more (S.Store.numbers store.old) operation }
 {
     match operation {
-        Operation::Halt => Moved {
-            next: at,
-            found: false,
-        },
+        Operation::Halt => Moved::to(at),
         Operation::Plus {
             target,
             source,
@@ -83,10 +90,7 @@ pub(super) fn perform<S: Store>(
         } => {
             let v = get(store, source);
             put(store, target, v + constant);
-            Moved {
-                next: at + 1,
-                found: false,
-            }
+            Moved::to(at + 1)
         }
         Operation::Minus {
             target,
@@ -95,17 +99,11 @@ pub(super) fn perform<S: Store>(
         } => {
             let v = get(store, source);
             put(store, target, v.saturating_sub(constant));
-            Moved {
-                next: at + 1,
-                found: false,
-            }
+            Moved::to(at + 1)
         }
         Operation::If { source, label } => {
             if get(store, source) == 0 {
-                Moved {
-                    next: label - 1,
-                    found: false,
-                }
+                Moved::to(label - 1)
             } else {
                 Moved {
                     next: at + 1,
@@ -113,9 +111,6 @@ pub(super) fn perform<S: Store>(
                 }
             }
         }
-        Operation::Goto { label } => Moved {
-            next: label - 1,
-            found: false,
-        },
+        Operation::Goto { label } => Moved::to(label - 1),
     }
 }

@@ -6,7 +6,6 @@ use Rattle.caption_box.proofs.show.Show.go.Given as goal
 abbrev pub invariant-loop-steps : goal.invariant-loop-steps
 invariant-loop-steps g l =
     (l.self.sealed ≡ l.initial.self.sealed)
-    × (g.S.Store.limit l.store ≡ g.S.Store.limit l.initial.store)
     × Going
     (setting_of l.initial.self (g.S.Store.limit l.initial.store))
     (box_of l.initial.self (g.S.Store.numbers l.initial.store))

@@ -1,6 +1,0 @@
-use Rattle.std.proofs.Common.{◌≡◌, length, arith, rules}
-use Rattle.caption_box.proofs.Leaving.{level_past}
-use Rattle.caption_box.proofs.rehearsal.Position.level.Goals as goal
-
-pub returns-else-d-lt8 : goal.returns-else-d-lt8
-returns-else-d-lt8 c = let h : length c.args.self.levels ≡ 8 = search rules in level_past c.args.self.levels c.args.d (omega arith)
