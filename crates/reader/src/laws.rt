@@ -2,71 +2,61 @@
 ghost use Rattle.reader.specs.Claims.{VerdictIsGrammar, SheetsAreAccepted, FirstFaultIsTold, SheetIsUnique, RecordsTellSheet, RecordForEachStatement, FirstFaultIsLeftmost, AnswerIsUnique, AcceptedExactly, ExampleTexts};
 
 // The machine that the parser follows accepts only sheets within the limits, and refuses only by the first fault.
-pub fn verdict_is_grammar() -> u8
+pub fn verdict_is_grammar()
     ensures { VerdictIsGrammar }
 {
-    0
 }
 
 // It accepts every sheet within the limits.
-pub fn sheets_are_accepted() -> u8
+pub fn sheets_are_accepted()
     ensures { SheetsAreAccepted }
 {
-    0
 }
 
 // It tells every first fault.
-pub fn first_fault_is_told() -> u8
+pub fn first_fault_is_told()
     ensures { FirstFaultIsTold }
 {
-    0
 }
 
 // Symbols spell at most one sheet.
-pub fn sheet_is_unique() -> u8
+pub fn sheet_is_unique()
     ensures { SheetIsUnique }
 {
-    0
 }
 
 // Sheets with the same records are the same.
-pub fn records_tell_sheet() -> u8
+pub fn records_tell_sheet()
     ensures { RecordsTellSheet }
 {
-    0
 }
 
 // Each statement of a text has one record and one place.
-pub fn record_for_each_statement() -> u8
+pub fn record_for_each_statement()
     ensures { RecordForEachStatement }
 {
-    0
 }
 
 // The first fault is the leftmost, and at its place the one with the smallest number.
-pub fn first_fault_is_leftmost() -> u8
+pub fn first_fault_is_leftmost()
     ensures { FirstFaultIsLeftmost }
 {
-    0
 }
 
 // A text and its memory have one answer.
-pub fn answer_is_unique() -> u8
+pub fn answer_is_unique()
     ensures { AnswerIsUnique }
 {
-    0
 }
 
 // A text is accepted exactly if it spells a sheet within the limits that fits the memory.
-pub fn accepted_exactly() -> u8
+pub fn accepted_exactly()
     ensures { AcceptedExactly }
 {
-    0
 }
 
 // What some texts are answered.
-pub fn example_texts() -> u8
+pub fn example_texts()
     ensures { ExampleTexts }
 {
-    0
 }

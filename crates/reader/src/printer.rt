@@ -23,36 +23,31 @@ pub fn print(records: &[Placed<Statement>], page: &mut [u8]) -> Result<usize, Re
 }
 
 // The next-sibling question leads along a body.
-pub fn next_sibling_leads_on() -> u8
+pub fn next_sibling_leads_on()
     ensures { NextSiblingLeadsOn }
 {
-    0
 }
 
 // The printed form of a sheet is read back.
-pub fn printed_sheet_reads_back() -> u8
+pub fn printed_sheet_reads_back()
     ensures { PrintedSheetReadsBack }
 {
-    0
 }
 
 // A print has at most one answer.
-pub fn print_is_unique() -> u8
+pub fn print_is_unique()
     ensures { PrintIsUnique }
 {
-    0
 }
 
 // The records of every text that is read can be printed.
-pub fn read_sheet_prints() -> u8
+pub fn read_sheet_prints()
     ensures { ReadSheetPrints }
 {
-    0
 }
 
 // The printed form of the worked example.
-pub fn example_prints() -> u8
+pub fn example_prints()
     ensures { ExamplePrints }
 {
-    0
 }

@@ -36,6 +36,6 @@ pub fn word_at<'a>(text: &'a [u8], place: usize) -> Word<'a>
     Word {
         start,
         length: 0,
-        bytes: &[],
+        bytes: &text[start..start],
     }
 }

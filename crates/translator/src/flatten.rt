@@ -31,19 +31,6 @@ fn file(
     flats.file(Placed { place, item }).ok_or(Refusal::FlatFull)
 }
 
-// A WHILE over a register.
-fn while_over(source: usize, end: usize) -> Statement
-    ensures { result ≡ statement_of kinds.While 0 source 0 end }
-{
-    Statement {
-        kind: Kind::While,
-        target: 0,
-        source,
-        constant: 0,
-        end,
-    }
-}
-
 // Files what a LOOP begins with, entry, test and countdown, and answers the index of the test, which has no end yet.
 // `small` stays a clause, here and below: where a struct held the table and that fact, it was not proved what the
 // memory holds once the struct is let go.
@@ -69,7 +56,7 @@ fn open_loop(
         end: index + 1,
     };
     file(flats, place, entry, Role::Entry)?;
-    let head = file(flats, place, while_over(counter, 0), Role::Test)?;
+    let head = file(flats, place, Statement::block(Kind::While, counter, 0), Role::Test)?;
     let down = Statement {
         kind: Kind::Minus,
         target: counter,
@@ -88,7 +75,7 @@ fn end_while(flats: &mut Table<Placed<Flat>>, head: usize, place: usize, source:
     ensures memory { memory flats.new ≡ slice_set (memory flats.old) head (placed place (flat_of (statement_of kinds.While 0 source 0 (count flats.old)) role)) }
     ensures lent { lent flats.new ≡ lent flats.old }
 {
-    let statement = while_over(source, flats.len());
+    let statement = Statement::block(Kind::While, source, flats.len());
     let item = Flat { statement, role };
     flats.amend(head, Placed { place, item });
 }
@@ -122,7 +109,7 @@ fn flatten_statement(
             end_while(flats, head, place, own, Role::Test);
         }
         Kind::While => {
-            let opened = while_over(item.source, 0);
+            let opened = Statement::block(Kind::While, item.source, 0);
             let head = file(flats, place, opened, Role::Written)?;
             flatten_body(records, at + 1, item.end, counter, flats)?;
             end_while(flats, head, place, item.source, Role::Written);

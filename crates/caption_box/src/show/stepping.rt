@@ -1,6 +1,5 @@
 // One step of an operation over a store.
 ghost use Rattle.std.specs.Prelude.{◌≡◌, suc, ◌<◌, false};
-ghost use Rattle.translator.specs.JumpCode.{inside, fits as fit};
 ghost use Rattle.caption_box.specs.declared.types.State.TheVariants.{Time};
 ghost use Rattle.caption_box.specs.Left.{Leaves};
 ghost use Rattle.caption_box.specs.Stepping.{fate as fate_of, stored as stored_by, label_after, finds_more};
@@ -10,32 +9,11 @@ use crate::types::State;
 use stores::store::Store;
 use translator::types::Operation;
 
-// Whether a label lies inside a code of that size.
-fn is_inside(size: usize, label: usize) -> bool
-    ensures { result ≡ inside size label }
-{
-    label >= 1 && label <= size
-}
-
-// Whether an operation of a code of that size names no register from n on, and no label outside the code.
-fn fits(operation: Operation, n: usize, size: usize) -> bool
-    ensures { result ≡ fit n size operation }
-{
-    match operation {
-        Operation::Halt => true,
-        Operation::Plus { target, source, .. } | Operation::Minus { target, source, .. } => {
-            target < n && source < n
-        }
-        Operation::If { source, label } => source < n && is_inside(size, label),
-        Operation::Goto { label } => is_inside(size, label),
-    }
-}
-
 // How an operation of a code of that size stands that is next, where n registers may be named.
 pub(super) fn fate<S: Store>(operation: Operation, n: usize, size: usize, store: &S) -> State
     ensures { result ≡ fate_of (S.Store.limit store.now) n size (S.Store.numbers store.now) operation }
 {
-    if !fits(operation, n, size) {
+    if !operation.fits(n, size) {
         return State::Unfit;
     }
     match operation {

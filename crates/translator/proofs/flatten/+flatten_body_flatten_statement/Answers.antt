@@ -143,7 +143,7 @@ flatten_statement-returns-in_err-flatten_body-in-While-clause-filed t c =
     let rs = c.args.records.now in
     let F = c.in_ok-head-in-While.ensures in
     let E = c.in_err-flatten_body-in-While.ensures.filed in
-    let x = placed (record_at rs c.args.at).place (flat_of c.while_over-opened.result role.Written) in
+    let x = placed (record_at rs c.args.at).place (flat_of c.block-opened.result role.Written) in
     handed_up _ _ c.from_residual-in_err-flatten_body-in-While.result c.from_residual-in_err-flatten_body-in-While.ensures.1 (
       E.0,
       λ b p xs s l.
@@ -172,7 +172,7 @@ flatten_statement-returns-in_ok-flatten_body-in-While-clause-filed t c =
     let B = c.in_ok-flatten_body-in-While.ensures in
     let Z = c.end_while-in-While.ensures in
     let put : OneFiled (placed (record_at rs a).place (flat_of (statement_of kind.While 0 (record_at rs a).item.source 0 0) role.Written)) c.args.flats.now c.file.new.flats =
-    subst (λ (z : Statement). OneFiled (placed (record_at rs a).place (flat_of z role.Written)) c.args.flats.now c.file.new.flats) c.while_over-opened.ensures F.filed.1 in (
+    subst (λ (z : Statement). OneFiled (placed (record_at rs a).place (flat_of z role.Written)) c.args.flats.now c.file.new.flats) c.block-opened.ensures F.filed.1 in (
       (whiles-at rs a P.0 P.1 P.2 c.in-While.is P.3 P.4).nested.more,
       λ b p xs s l.
           let v = whiles-at rs a b p xs c.in-While.is s l in
