@@ -30,6 +30,18 @@ rewinds_done x xs ok = go (ltb (length x.run.registers) 32) (ltb 31 (length xs))
     go false false true y e = refl
     go false false false y e = let q : ◌≡◌ {A = ℕ} 0 1 = cc in absurd (omega arith)
 
+rewinds_kept : (x : WrittenScene) (xs : List ℕ) (f : Refusal) → seats 32 x.top x.run.registers xs ≡ Err f → written_rewinds x xs ≡ written_outcome (Err f) x
+rewinds_kept x xs f bad = go (ltb (length x.run.registers) 32) (ltb 31 (length xs)) (all_below x.top xs) (written_scene x.sheet x.top (written_beginning x.sheet xs x.run.registers)) bad
+  where
+    go : (a b c : Bool) (y : WrittenScene) → ◌≡◌ {A = Result (Unit {0}) Refusal} (cond a (Err SmallStore) (cond b (Err ManyInputs) (cond c (Ok tt) (Err OverTop)))) (Err f)
+        → ◌≡◌ {A = WrittenOutcome (Unit {0})}
+        (cond a (written_outcome (Err SmallStore) x) (cond b (written_outcome (Err ManyInputs) x) (cond c (written_outcome (Ok tt) y) (written_outcome (Err OverTop) x))))
+        (written_outcome (Err f) x)
+    go true b c y e = ap (λ (r : Result (Unit {0}) Refusal). written_outcome r x) e
+    go false true c y e = ap (λ (r : Result (Unit {0}) Refusal). written_outcome r x) e
+    go false false true y e = let q : ◌≡◌ {A = ℕ} 0 1 = cc in absurd (omega arith)
+    go false false false y e = ap (λ (r : Result (Unit {0}) Refusal). written_outcome r x) e
+
 none-counted : (n : Counts) → n ≡ no_counts → Counted n
 none-counted n e = subst Counted (sym e) (record { steps = omega arith; entered = omega arith; whiles = omega arith; rounds = omega arith })
 
@@ -71,6 +83,9 @@ module _ (s : Rehearsal) (first : AtFirst s) where
 module _ (top top' : ℕ) (ν ν' xs : List ℕ) (f : Refusal) (bad : seats 32 top ν xs ≡ Err f) (en : ν' ≡ seated 32 top ν xs) (et : top' ≡ top) where
   kept : ν' ≡ ν
   kept = en ∙ seated_kept 32 top ν xs f bad
+
+  pub rehearsal_unrewound : (r : Result (Unit {0}) Refusal) → r ≡ Err f → (s : Rehearsal) → written_outcome r (written_scene_of s ν' top') ≡ written_rewinds (written_scene_of s ν top) xs
+  rehearsal_unrewound r e s = (λ i. written_outcome (e i) (written_scene_of s (kept i) (et i))) ∙ sym (rewinds_kept (written_scene_of s ν top) xs f bad)
 
   pub rehearsal_unstarted : (rs : Recs) → IsSheet rs → WrittenUnstarted rs top ν xs f ν'
   rehearsal_unstarted rs h = record { refused = inr (h, bad); numbers = kept }

@@ -1,5 +1,5 @@
-use Rattle.std.proofs.Common.{◌+◌, ◌<◌, ◌≤◌, get_or, ◌∙◌, arith}
-use Rattle.stores.proofs.SixDigits.{spelt_low, spelt_more, spelt_all, six-length, six-get}
+use Rattle.std.proofs.Common.{◌<◌, ◌∙◌, arith}
+use Rattle.stores.proofs.SixDigits.{spelt_low, spelt_more, six-length, six-get}
 use Rattle.stores.proofs.decimal.number_at.Goals as goal
 
 pub overflow_mul-number : goal.overflow_mul-number
