@@ -5,17 +5,14 @@ ghost use Rattle.caption_box.specs.WrittenHistory.{RehearsalFollows, RehearsalAn
 // What the sheets to try come to.
 pub fn sheets_to_try()
     ensures { SheetsToTry }
-{
-}
+{}
 
 // After any history a rehearsal stands where its account stands.
 pub fn rehearsal_follows()
     ensures { RehearsalFollows }
-{
-}
+{}
 
 // After the same written steps, with the same corrections, rehearsal and show agree on x0 to x31.
 pub fn rehearsal_and_show_agree()
     ensures { RehearsalAndShowAgree }
-{
-}
+{}

@@ -1,5 +1,6 @@
 // The lines of a script, one after another.
-ghost use Rattle.std.specs.Prelude.{◌+◌, ◌≤◌, length, is_some, IfOk, if◌then◌else◌};
+ghost use Rattle.std.specs.Prelude.{IfOk};
+ghost use Rattle.console.specs.Scripts.{Goes};
 
 use crate::answer::{Answer, NotDone};
 use crate::desk::Desk;
@@ -20,7 +21,7 @@ use translator::draft::HALT;
 const MOST: usize = 4_096;
 
 // Runs a script. The memory is enough for each sheet.
-pub fn run_script(out: &mut impl Write, heap: Global, text: &[u8]) -> anyhow::Result<()> {
+pub fn run_script<W: Write>(out: &mut W, heap: Global, text: &[u8]) -> anyhow::Result<()> {
     let mut code = [HALT; 548];
     // A sheet has six bytes before it, and a record for each eight of its own is enough (`room_for`).
     let mut records = vec![in heap; ZERO_RECORD; text.len() / 3 + 1]?;
@@ -30,97 +31,102 @@ pub fn run_script(out: &mut impl Write, heap: Global, text: &[u8]) -> anyhow::Re
         first: FlatStore::new(&mut none),
         second: FlatStore::new(&mut no_twin),
     };
-    let mut script = Script::new(text);
     let desk = Desk {
         run: Run::Bare(&mut code),
         view: None,
         records: records.as_mut_slice(),
     };
-    let (mut desk, mut next) = play(out, heap, &mut script, desk, &mut stores)?;
+    let script = Script::new(text);
+    let mut player = Player { out, heap, script };
+    let (mut desk, mut next) = player.play(desk, &mut stores)?;
     while let Some(make) = next {
-        (desk, next) = play_over(out, heap, &mut script, desk, make)?;
+        (desk, next) = player.play_over(desk, make)?;
     }
     Ok(())
 }
 
-// Makes the stores, answers the line, and plays on them.
-fn play_over<'c>(
-    out: &mut impl Write,
+// A script that is played: where its answers go, memory for its lines, and what is still to come of it.
+#[derive(Drop)]
+struct Player<'p, 's, W> {
+    out: &'p mut W,
     heap: Global,
-    script: &mut Script<'_>,
-    desk: Desk<'c>,
-    make: Make,
-) -> anyhow::Result<(Desk<'c>, Option<Make>)>
-    ensures { IfOk result (λ p. length script.new.rest.now + (if is_some p.1 then 1 else 0) ≤ length script.old.rest.now) }
-{
-    let view = Some(View::whole());
-    let desk = Desk { view, ..desk };
-    match make {
-        Make::Flat(count) => {
-            let mut cells = vec![in heap; 0u32; count.min(MOST)]?;
-            let mut twin_cells = vec![in heap; 0u32; count.min(MOST)]?;
-            let stores = Twins {
-                first: FlatStore::new(cells.as_mut_slice()),
-                second: FlatStore::new(twin_cells.as_mut_slice()),
-            };
-            play_on(out, heap, script, desk, stores)
-        }
-        Make::Decimal(count) => {
-            let mut bytes = vec![in heap; 0u8; 6 * count.min(MOST)]?;
-            let mut twin_bytes = vec![in heap; 0u8; 6 * count.min(MOST)]?;
-            let stores = Twins {
-                first: DecimalStore::new(bytes.as_mut_slice()),
-                second: DecimalStore::new(twin_bytes.as_mut_slice()),
-            };
-            play_on(out, heap, script, desk, stores)
-        }
-    }
+    script: Script<'s>,
 }
 
-// Answers the line that made the stores, and plays on them.
-fn play_on<'c, S: Store + Drop>(
-    out: &mut impl Write,
-    heap: Global,
-    script: &mut Script<'_>,
-    desk: Desk<'c>,
-    mut stores: Twins<S>,
-) -> anyhow::Result<(Desk<'c>, Option<Make>)>
-    ensures { IfOk result (λ p. length script.new.rest.now + (if is_some p.1 then 1 else 0) ≤ length script.old.rest.now) }
-{
-    let answer = Answer::of_store(&stores.first);
-    writeln!(out, "{answer}")?;
-    play(out, heap, script, desk, &mut stores)
-}
-
-// Answers the lines of the script up to one that makes a store, and hands out what that line makes. Its answer is still to
-// be written then.
-fn play<'c, S: Store>(
-    out: &mut impl Write,
-    heap: Global,
-    script: &mut Script<'_>,
-    mut desk: Desk<'c>,
-    stores: &mut Twins<S>,
-) -> anyhow::Result<(Desk<'c>, Option<Make>)>
-    ensures { IfOk result (λ p. length script.new.rest.now + (if is_some p.1 then 1 else 0) ≤ length script.old.rest.now) }
-{
-    while let Some(bytes) = script.next_line() {
-        let text = String::from_utf8_lossy(heap, bytes)?;
-        let line = text.as_str().trim();
-        if line.is_empty() || line.starts_with('#') {
-            continue;
-        }
-        write!(out, "{line} -> ")?;
-        let (after, reply) = match parse(heap, line) {
-            Ok(Line::Store(make)) => return Ok((desk, Some(make))),
-            Ok(Line::Sheet) => desk.load(script.next_sheet()),
-            Ok(Line::Order(order)) => desk.obey(stores, order),
-            Err(bad) => (desk, Err(NotDone::Bad(bad))),
-        };
-        desk = after;
-        match reply {
-            Ok(answer) => writeln!(out, "{answer}")?,
-            Err(cause) => writeln!(out, "{cause}")?,
+impl<'p, 's, W: Write> Player<'p, 's, W> {
+    // Makes the stores, answers the line, and plays on them.
+    fn play_over<'c>(
+        &mut self,
+        desk: Desk<'c>,
+        make: Make,
+    ) -> anyhow::Result<(Desk<'c>, Option<Make>)>
+        ensures { IfOk result (λ p. Goes self.old.script.rest.now p.1 self.new.script.rest.now) }
+    {
+        let view = Some(View::whole());
+        let desk = Desk { view, ..desk };
+        match make {
+            Make::Flat(count) => {
+                let mut cells = vec![in self.heap; 0u32; count.min(MOST)]?;
+                let mut twin_cells = vec![in self.heap; 0u32; count.min(MOST)]?;
+                let stores = Twins {
+                    first: FlatStore::new(cells.as_mut_slice()),
+                    second: FlatStore::new(twin_cells.as_mut_slice()),
+                };
+                self.play_on(desk, stores)
+            }
+            Make::Decimal(count) => {
+                let mut bytes = vec![in self.heap; 0u8; 6 * count.min(MOST)]?;
+                let mut twin_bytes = vec![in self.heap; 0u8; 6 * count.min(MOST)]?;
+                let stores = Twins {
+                    first: DecimalStore::new(bytes.as_mut_slice()),
+                    second: DecimalStore::new(twin_bytes.as_mut_slice()),
+                };
+                self.play_on(desk, stores)
+            }
         }
     }
-    Ok((desk, None))
+
+    // Answers the line that made the stores, and plays on them.
+    fn play_on<'c, S: Store + Drop>(
+        &mut self,
+        desk: Desk<'c>,
+        mut stores: Twins<S>,
+    ) -> anyhow::Result<(Desk<'c>, Option<Make>)>
+        ensures { IfOk result (λ p. Goes self.old.script.rest.now p.1 self.new.script.rest.now) }
+    {
+        let answer = Answer::of_store(&stores.first);
+        writeln!(self.out, "{answer}")?;
+        self.play(desk, &mut stores)
+    }
+
+    // Answers the lines of the script up to one that makes a store, and hands out what that line makes. Its answer is still
+    // to be written then.
+    fn play<'c, S: Store>(
+        &mut self,
+        mut desk: Desk<'c>,
+        stores: &mut Twins<S>,
+    ) -> anyhow::Result<(Desk<'c>, Option<Make>)>
+        ensures { IfOk result (λ p. Goes self.old.script.rest.now p.1 self.new.script.rest.now) }
+    {
+        while let Some(bytes) = self.script.next_line() {
+            let text = String::from_utf8_lossy(self.heap, bytes)?;
+            let line = text.as_str().trim();
+            if line.is_empty() || line.starts_with('#') {
+                continue;
+            }
+            write!(self.out, "{line} -> ")?;
+            let (after, reply) = match parse(self.heap, line) {
+                Ok(Line::Store(make)) => return Ok((desk, Some(make))),
+                Ok(Line::Sheet) => desk.load(self.script.next_sheet()),
+                Ok(Line::Order(order)) => desk.obey(stores, order),
+                Err(bad) => (desk, Err(NotDone::Bad(bad))),
+            };
+            desk = after;
+            match reply {
+                Ok(answer) => writeln!(self.out, "{answer}")?,
+                Err(cause) => writeln!(self.out, "{cause}")?,
+            }
+        }
+        Ok((desk, None))
+    }
 }

@@ -1,7 +1,8 @@
 // A filing table over lent memory, filled from the front.
 ghost use Rattle.std.specs.Prelude.{◌≤◌, length};
 
-// The first `filed` cells hold the elements that are filed. The memory is lent and never grows.
+// The first `filed` cells hold the elements that are filed: memory of the caller's, which no Vec can be. That a call leaves
+// it the same memory is a clause of its own each time, since no type says what is left behind a `&mut`.
 #[derive(Drop)]
 pub struct Table<'a, T> {
     cells: &'a mut [T],

@@ -27,7 +27,8 @@ fn is_head(s: Statement, next: usize, to: usize) -> bool
     s.target == 0 && s.source <= 31 && s.constant == 0 && next < s.end && s.end <= to
 }
 
-// Whether record `index`, with those of its body, is a statement at that level, in a body that ends before `to`.
+// Whether record `index`, with those of its body, is a statement at that level, in a body that ends before `to`. Records
+// and bounds stay apart, here and in the writer: no two calls have the same bounds, and a struct of them would state none.
 #[cycle(is_body_is_statement)]
 fn is_statement(records: &[Placed<Statement>], index: usize, to: usize, level: Level) -> bool
     ensures { Decides result (IsStatement records.now index to level.depth) }

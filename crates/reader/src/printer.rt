@@ -25,29 +25,24 @@ pub fn print(records: &[Placed<Statement>], page: &mut [u8]) -> Result<usize, Re
 // The next-sibling question leads along a body.
 pub fn next_sibling_leads_on()
     ensures { NextSiblingLeadsOn }
-{
-}
+{}
 
 // The printed form of a sheet is read back.
 pub fn printed_sheet_reads_back()
     ensures { PrintedSheetReadsBack }
-{
-}
+{}
 
 // A print has at most one answer.
 pub fn print_is_unique()
     ensures { PrintIsUnique }
-{
-}
+{}
 
 // The records of every text that is read can be printed.
 pub fn read_sheet_prints()
     ensures { ReadSheetPrints }
-{
-}
+{}
 
 // The printed form of the worked example.
 pub fn example_prints()
     ensures { ExamplePrints }
-{
-}
+{}

@@ -81,7 +81,7 @@ pub enum Kind {
 }
 
 // A statement as a record. `source` is the register in the head of a LOOP or WHILE; `end` is the index
-// after the statement and its body. What a kind lacks is 0.
+// after the statement and its body. What a kind lacks is 0. Records lie in lent memory, with no heap for a tree.
 #[derive(Clone, Copy, Debug, PartialEq, Eq)]
 pub struct Statement {
     pub kind: Kind,
@@ -91,14 +91,17 @@ pub struct Statement {
     pub end: usize,
 }
 
+// The statement of a record that holds none.
+pub const ZERO_STATEMENT: Statement = Statement {
+    kind: Kind::Zero,
+    target: 0,
+    source: 0,
+    constant: 0,
+    end: 0,
+};
+
 // What memory for records holds where it holds none.
 pub const ZERO_RECORD: Placed<Statement> = Placed {
     place: 0,
-    item: Statement {
-        kind: Kind::Zero,
-        target: 0,
-        source: 0,
-        constant: 0,
-        end: 0,
-    },
+    item: ZERO_STATEMENT,
 };

@@ -8,7 +8,8 @@ use crate::types::{Instruction, Operation, Role};
 use filing::table::Table;
 use reader::types::Refusal;
 
-// Code that is still being laid. Memory for instructions is never so long that a label would not be a number.
+// Code that is still being laid. Memory for instructions is never so long that a label would not be a number. That a call
+// leaves a draft the same memory is a clause of its own each time, since no type says what is left behind a `&mut`.
 #[derive(Drop)]
 pub struct Draft<'a> {
     table: Table<'a, Instruction>,

@@ -32,8 +32,8 @@ fn file(
 }
 
 // Files what a LOOP begins with, entry, test and countdown, and answers the index of the test, which has no end yet.
-// `small` stays a clause, here and below: where a struct held the table and that fact, it was not proved what the
-// memory holds once the struct is let go.
+// `small`, `room` and `lent` stay clauses, here and below: where a struct held the table and such a fact, it was not proved
+// what the memory holds once the struct is let go.
 fn open_loop(
     flats: &mut Table<Placed<Flat>>,
     place: usize,
@@ -56,7 +56,12 @@ fn open_loop(
         end: index + 1,
     };
     file(flats, place, entry, Role::Entry)?;
-    let head = file(flats, place, Statement::block(Kind::While, counter, 0), Role::Test)?;
+    let head = file(
+        flats,
+        place,
+        Statement::block(Kind::While, counter, 0),
+        Role::Test,
+    )?;
     let down = Statement {
         kind: Kind::Minus,
         target: counter,

@@ -9,131 +9,109 @@ ghost use Rattle.translator.specs.Loading.{LoadIsUnique};
 // The written step takes exactly the published LOOP and WHILE steps.
 pub fn written_rules_hold()
     ensures { WrittenStepIsPublished }
-{
-}
+{}
 
 // Every sheet without an empty body is that of a program of the published rules.
 pub fn programs_cover_sheets()
     ensures { SheetIsProgram }
-{
-}
+{}
 
 // The box step takes exactly the published GOTO steps.
 pub fn goto_rules_hold()
     ensures { BoxStepIsPublished }
-{
-}
+{}
 
 // Flat statements are the statements and two more for each LOOP.
 pub fn flat_size_holds()
     ensures { FlatSizeIsCounted }
-{
-}
+{}
 
 // A sheet within the limits has at most 320 flat statements.
 pub fn flat_bound_holds()
     ensures { FlatHasAtMost320 }
-{
-}
+{}
 
 // Instructions are counted by assignments, LOOPs and WHILEs, with HALT.
 pub fn code_size_holds()
     ensures { CodeSizeIsCounted }
-{
-}
+{}
 
 // A sheet within the limits has at most 548 instructions.
 pub fn code_bound_holds()
     ensures { CodeHasAtMost548 }
-{
-}
+{}
 
 // Some sheet within the limits has 320 flat statements and 548 instructions.
 pub fn bounds_are_met()
     ensures { Fullest }
-{
-}
+{}
 
 // N of a code is 32 and the LOOPs of its sheet.
 pub fn width_holds()
     ensures { CodeWidthIsSheetWidth }
-{
-}
+{}
 
 // The code of a sheet can be sealed.
 pub fn code_is_whole()
     ensures { CodeIsWhole }
-{
-}
+{}
 
 // A seal refuses no sheet within the limits.
 pub fn sheet_is_sealed()
     ensures { SheetIsSealed }
-{
-}
+{}
 
 // A text and three memories have one answer of load.
 pub fn load_is_unique()
     ensures { LoadIsUnique }
-{
-}
+{}
 
 // Every sheet that the reader accepts can be translated and played.
 pub fn spelled_sheet_is_playable()
     ensures { SpelledSheetIsPlayable }
-{
-}
+{}
 
 // Before M1 a box stands for the whole sheet.
 pub fn start_stands()
     ensures { StartStands }
-{
-}
+{}
 
 // A box step is silent or one written step, or both wait, or both have ended.
 pub fn step_holds()
     ensures { BoxStepIsWrittenOrSilent }
-{
-}
+{}
 
 // After a few silent steps the box does what the written run does next.
 pub fn box_keeps_up()
     ensures { BoxKeepsUp }
-{
-}
+{}
 
 // Many box steps stand for the tallied written steps.
 pub fn steps_stand()
     ensures { BoxStepsStand }
-{
-}
+{}
 
 // A correction keeps box and written run together.
 pub fn correction_stands()
     ensures { CorrectionStands }
-{
-}
+{}
 
 // Registers from N on are of no account.
 pub fn beyond_width_is_free()
     ensures { BeyondWidthIsFree }
-{
-}
+{}
 
 // Box steps and what is owed meet the step formula at every moment.
 pub fn account_holds()
     ensures { StepsAreAccounted }
-{
-}
+{}
 
 // Where a box stands for a written run, registers, end, bound and progress are as claimed.
 pub fn standing_agrees()
     ensures { StandingBoxAgrees }
-{
-}
+{}
 
 // The box follows the written run of its sheet from any registers.
 pub fn simulation_holds()
     ensures { BoxFollowsWritten }
-{
-}
+{}

@@ -38,7 +38,8 @@ fn unplaced(stage: Stage, item: Refusal) -> Fault
     }
 }
 
-// Reads the text and flattens its sheet; answers how many flat statements there are.
+// Reads the text and flattens its sheet; answers how many flat statements there are. The memories stay apart, since the
+// caller lends each by itself.
 fn prepare(
     text: &[u8],
     records: &mut [Placed<Statement>],

@@ -1,5 +1,5 @@
 // The plain data of the translator. Clauses stand inside impl blocks alone, so that specs/ can name every type.
-use reader::types::{Kind, Placed, Refusal, Statement};
+use reader::types::{Placed, Refusal, Statement, ZERO_STATEMENT};
 
 // Where an instruction or a flat statement comes from. docs/CODE.md has the letters.
 #[derive(Clone, Copy, Debug, PartialEq, Eq)]
@@ -105,18 +105,11 @@ pub struct Flat {
     pub role: Role,
 }
 
-// What memory for flat statements holds where it holds none. A constant cannot take a field of another one, so what
-// ZERO_RECORD has stands here again.
+// What memory for flat statements holds where it holds none.
 pub const ZERO_FLAT: Placed<Flat> = Placed {
     place: 0,
     item: Flat {
-        statement: Statement {
-            kind: Kind::Zero,
-            target: 0,
-            source: 0,
-            constant: 0,
-            end: 0,
-        },
+        statement: ZERO_STATEMENT,
         role: Role::Written,
     },
 };

@@ -1,6 +1,8 @@
 ghost use Rattle.std.specs.Prelude.{◌≡◌, ℕ, ◌-◌, ◌<◌, ◌++◌, length, take, slice_set};
 ghost use Rattle.reader.specs.Records.{cleared};
 
+// Each call makes a table of its own: of a table that the parser holds, the check does not know what the lent memory is
+// left with. The three are left as they are, for what they share is that one line.
 use crate::types::{Placed, Statement, ZERO_RECORD};
 use filing::table::Table;
 
