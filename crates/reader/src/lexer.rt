@@ -141,12 +141,15 @@ pub(crate) fn width(token: Token) -> usize
 fn mark(text: &[u8]) -> Option<Token<'static>>
     ensures { MarkTold text.now result }
 {
-    match text {
-        [b';', ..] => Some(Token::Semicolon),
-        [b'+', ..] => Some(Token::Plus),
-        [b'-', ..] => Some(Token::Minus),
-        [b':', b'=', ..] => Some(Token::Assign),
-        [b'!', b'=', ..] => Some(Token::Unequal),
+    let [first, rest @ ..] = text else {
+        return None;
+    };
+    match (char::from(*first), rest) {
+        (';', _) => Some(Token::Semicolon),
+        ('+', _) => Some(Token::Plus),
+        ('-', _) => Some(Token::Minus),
+        (':', [b'=', ..]) => Some(Token::Assign),
+        ('!', [b'=', ..]) => Some(Token::Unequal),
         _ => None,
     }
 }
