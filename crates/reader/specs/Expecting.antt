@@ -41,6 +41,7 @@ Required text from (Err e) to = Refuses Anything text from e
 abbrev pub Takes : {X : Type 0} → (Lexeme → Option X → Type 0) → Symbol → Type 0
 Takes takes s = (l : Lexeme) × (s ≡ meant l) × (takes l None → ⊥)
 
+-- the one symbol that stands first gives something, or it is refused
 pub data Picked {X : Type 0} (takes : Lexeme → Option X → Type 0) (text : List ℕ) (from : ℕ) : Result X (Placed Refusal) → ℕ → Type 0 where
   picked : {x : X} {l : Lexeme} {to : ℕ} → takes l (Some x) → Passes text from to (meant l) → Fine (meant l) → Picked takes text from (Ok x) to
   not_picked : {e : Placed Refusal} {to : ℕ} → Refuses (Takes takes) text from e → Picked takes text from (Err e) to

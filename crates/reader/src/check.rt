@@ -2,7 +2,7 @@ ghost use Rattle.std.specs.Prelude.{◌≡◌, ℕ, ◌<◌, Decides};
 ghost use Rattle.reader.specs.Checks.{IsSheet, sibling, Assigned, Headed, Body, IsStatement, loops_in};
 
 use crate::level::Level;
-use crate::limits::{LOOPS, STATEMENTS};
+use crate::limits::{HIGHEST_REGISTER, LARGEST_NUMBER, LOOPS, STATEMENTS};
 use crate::types::{Kind, Placed, Statement};
 
 // The index of the next statement of the same body, which ends before `body_end`; none after the last one.
@@ -17,14 +17,17 @@ pub fn next_sibling(records: &[Placed<Statement>], index: usize, body_end: usize
 fn is_assignment(s: Statement, next: usize) -> bool
     ensures { Decides result (Assigned s next) }
 {
-    s.end == next && s.target <= 31 && s.source <= 31 && s.constant <= 999_999
+    s.end == next
+        && s.target <= HIGHEST_REGISTER
+        && s.source <= HIGHEST_REGISTER
+        && s.constant <= LARGEST_NUMBER
 }
 
 // Whether the record is the head of a LOOP or WHILE whose body begins at `next`, in a body that ends before `to`.
 fn is_head(s: Statement, next: usize, to: usize) -> bool
     ensures { (level : ℕ) → level < 8 → Decides result (Headed s next to level) }
 {
-    s.target == 0 && s.source <= 31 && s.constant == 0 && next < s.end && s.end <= to
+    s.target == 0 && s.source <= HIGHEST_REGISTER && s.constant == 0 && next < s.end && s.end <= to
 }
 
 // Whether record `index`, with those of its body, is a statement at that level, in a body that ends before `to`. Records

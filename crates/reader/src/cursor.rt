@@ -90,8 +90,8 @@ impl<'a> Cursor<'a> {
         self.pick(Lexeme::sign)
     }
 
-    // Whether what follows a body is the word END. It takes `&mut self`, since the borrow checker covers no call by `&` on
-    // a field that holds a reference.
+    // Refuses what follows a body, unless it is the word END. It takes `&mut self`, since by `&self` the borrow checker does
+    // not cover the parser's call yet.
     pub(crate) fn expect_end(
         &mut self,
         follow: Option<Placed<Lexeme>>,
@@ -108,7 +108,7 @@ impl<'a> Cursor<'a> {
         }
     }
 
-    // Whether nothing follows the whole sheet; gives the place of the text's end. It takes `&mut self` as `expect_end` does.
+    // Refuses what follows the whole sheet; gives the place of the text's end. It takes `&mut self` as `expect_end` does.
     pub(crate) fn expect_nothing(
         &mut self,
         follow: Option<Placed<Lexeme>>,

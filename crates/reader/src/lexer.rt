@@ -5,6 +5,7 @@ ghost use Rattle.std.specs.Str.{all_ascii_digits};
 ghost use Rattle.reader.specs.Text.{Numeral, value as written};
 ghost use Rattle.reader.specs.Lexing.{NumberTold, RegisterTold, WordTold, TokenTold, width as width_of, digit_first, Sorted, Run, Stands, MarkTold, is_blank, TokenRead};
 
+use crate::limits::{HIGHEST_REGISTER, LARGEST_NUMBER};
 use crate::types::{Lexeme, Placed, Refusal, Token};
 
 // How many blanks stand first.
@@ -42,14 +43,15 @@ fn is_numeral(word: &[u8]) -> bool
     }
 }
 
-// The number that the digits write, unless it is above 999,999.
+// The number that the digits write, unless it is above 999,999. `parse` takes a `str`, and its answer would need the test of
+// that limit too.
 fn value(digits: &[u8]) -> Option<u32>
     requires { all_ascii_digits digits.now ≡ true }
     ensures { MatchOption result (999999 < written digits.now) (λ n. (n ≡ written digits.now) × (n ≤ 999999)) }
 {
     let mut value: u32 = 0;
     for d in digits {
-        if value > 99_999 {
+        if value > LARGEST_NUMBER / 10 {
             return None;
         }
         value = 10 * value + u32::from(*d - b'0');
@@ -74,10 +76,10 @@ fn register(word: &[u8]) -> Result<Lexeme, Refusal>
     let [b'x', digits @ ..] = word else {
         return Err(Refusal::StrangeWord);
     };
-    let i = number(digits)?;
-    if i <= 31 {
-        // `usize::from` takes no `u32`.
-        Ok(Lexeme::Register(i as usize))
+    // `usize::from` takes no `u32`.
+    let i = number(digits)? as usize;
+    if i <= HIGHEST_REGISTER {
+        Ok(Lexeme::Register(i))
     } else {
         Err(Refusal::TooBig)
     }

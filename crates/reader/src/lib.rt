@@ -7,7 +7,7 @@ pub mod laws;
 mod level;
 mod lexeme;
 mod lexer;
-mod limits;
+pub mod limits;
 mod parser;
 mod printer;
 mod reading;

@@ -39,7 +39,9 @@ impl From<BlockKind> for Kind {
     }
 }
 
-// A text that is parsed, and the records of the statements that have begun, as far as their memory goes.
+// A text that is parsed, and the records of the statements that have begun, as far as their memory goes. The memory is no
+// table here for the reason that parser/record_filing gives. What a call leaves as it was (`Kept`) is a clause of each, since
+// no type says what is left behind a `&mut`.
 #[derive(Drop)]
 pub struct Parser<'a, 't> {
     cursor: Cursor<'a>,
@@ -93,8 +95,8 @@ impl<'a, 't> Parser<'a, 't> {
         amend_record(self.records, filed, index, record);
     }
 
-    // Counts a LOOP or WHILE that begins at that place and level, and gives the level inside it, or tells the limit that it
-    // passes.
+    // Lets a LOOP or WHILE begin at that place and level, counting a LOOP, and gives the level inside it; or tells the limit
+    // that it passes.
     fn admit(
         &mut self,
         kind: BlockKind,
@@ -202,15 +204,15 @@ impl<'a, 't> Parser<'a, 't> {
         }
     }
 
-    // Reads the whole sheet, where there is memory for `room` records; gives the number of statements.
-    pub(crate) fn sheet(&mut self, room: usize) -> Result<usize, Placed<Refusal>>
-        requires { Fresh room self.old }
-        ensures read { SheetRead room (text_of self.old) (memory_of self.old) result (memory_of self.new) }
+    // Reads the whole sheet, as far as there is memory for its records; gives the number of statements.
+    pub(crate) fn sheet(&mut self) -> Result<usize, Placed<Refusal>>
+        requires { Fresh (length (memory_of self.old)) self.old }
+        ensures read { SheetRead (length (memory_of self.old)) (text_of self.old) (memory_of self.old) result (memory_of self.new) }
         ensures kept { Kept self.old self.new }
     {
         let follow = self.body(Level::outermost())?;
         let end = self.cursor.expect_nothing(follow)?;
-        if self.counts.statements > room {
+        if self.counts.statements > self.records.len() {
             return Err(Placed {
                 place: end,
                 item: Refusal::TreeFull,

@@ -2,11 +2,9 @@ ghost use Rattle.std.specs.Prelude.{length};
 ghost use Rattle.reader.specs.Parsing.{SheetRead};
 ghost use Rattle.reader.specs.Reading.{ReadAnswers};
 
+use crate::limits::LONGEST;
 use crate::parser::{Parser, clear_from};
 use crate::types::{Placed, Refusal, Statement};
-
-// The most bytes that the text of a sheet has.
-const LONGEST: usize = 16_384;
 
 // Reads the text of a sheet into records, one for each statement, in text order, and answers how many there are.
 // The memory behind them is cleared; a refusal clears all of it, and tells its place in the text.
@@ -29,7 +27,6 @@ pub fn read(text: &[u8], records: &mut [Placed<Statement>]) -> Result<usize, Pla
 fn parse(text: &[u8], records: &mut [Placed<Statement>]) -> Result<usize, Placed<Refusal>>
     ensures { SheetRead (length records.old) text.now records.old result records.new }
 {
-    let room = records.len();
     let mut parser = Parser::new(text, records);
-    parser.sheet(room)
+    parser.sheet()
 }

@@ -46,7 +46,7 @@ pub enum Token<'a> {
 }
 
 // A word of the text: its part of the text, and where that part lies. An empty one has length 0. The length is that of the
-// part, and stands beside it for callers that read it.
+// part; both were asked for, and callers read both.
 #[derive(Clone, Copy, Debug)]
 pub struct Word<'a> {
     pub start: usize,
@@ -81,7 +81,8 @@ pub enum Kind {
 }
 
 // A statement as a record. `source` is the register in the head of a LOOP or WHILE; `end` is the index
-// after the statement and its body. What a kind lacks is 0. Records lie in lent memory, with no heap for a tree.
+// after the statement and its body. What a kind lacks is 0, and a record of kind Zero is none, as the
+// published form of records has it. They lie in lent memory, with no heap for a tree.
 #[derive(Clone, Copy, Debug, PartialEq, Eq)]
 pub struct Statement {
     pub kind: Kind,

@@ -92,7 +92,7 @@ impl<'a> Writer<'a> {
             Lexeme::While => self.bytes(b"WHILE"),
             Lexeme::Do => self.bytes(b"DO"),
             Lexeme::End => self.bytes(b"END"),
-            // `usize::from` takes no `u32`.
+            // `usize::from` takes no `u32`; a `number` of either type would say its bound of twenty bytes twice.
             Lexeme::Number(n) => self.number(n as usize),
             Lexeme::Register(i) => {
                 self.byte(b'x');

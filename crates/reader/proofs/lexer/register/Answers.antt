@@ -14,8 +14,8 @@ returns-in_err-i c =
     let p = err_from_is_err_and c.from_residual.result c.from_residual.ensures.1 in
     rw (p.1, p.2) (register_none c.args.word.now (omega arith) (omega arith) c.in_err-i.ensures)
 
-pub returns-then-i-le31 : goal.returns-then-i-le31
-returns-then-i-le31 c = register_small c.args.word.now (omega arith) (omega arith) c.in_ok-i.ensures (omega arith)
+pub returns-then-i-le-HIGHEST_REGISTER : goal.returns-then-i-le-HIGHEST_REGISTER
+returns-then-i-le-HIGHEST_REGISTER c = register_small c.args.word.now (omega arith) (omega arith) c.in_ok-i.ensures (omega arith)
 
-pub returns-else-i-le31 : goal.returns-else-i-le31
-returns-else-i-le31 c = register_large c.args.word.now (omega arith) (omega arith) c.in_ok-i.ensures (omega arith)
+pub returns-else-i-le-HIGHEST_REGISTER : goal.returns-else-i-le-HIGHEST_REGISTER
+returns-else-i-le-HIGHEST_REGISTER c = register_large c.args.word.now (omega arith) (omega arith) c.in_ok-i.ensures (omega arith)
