@@ -82,7 +82,8 @@ impl<'a, T: Copy> Table<'a, T> {
         self.as_slice().get(index).copied()
     }
 
-    // Puts `x` in the place of the element at `index`; false where none is filed there.
+    // Puts `x` in the place of the element at `index`; false where none is filed there. There is nothing more to tell, so
+    // that an Option would say no more.
     pub fn amend(&mut self, index: usize, x: T) -> bool
         ensures amended { Amended x index self.old result self.new }
         ensures lent { lent self.new ≡ lent self.old }

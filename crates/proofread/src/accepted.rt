@@ -1,5 +1,6 @@
 // What is said of a sheet that is in order.
 use crate::shown::Shown;
+use reader::limits::{LONGEST, STATEMENTS};
 use reader::types::{Placed, Statement, ZERO_RECORD};
 use reader::{print, read};
 use std::io;
@@ -13,7 +14,7 @@ pub fn write_accepted(
     sheet: &[Placed<Statement>],
 ) -> anyhow::Result<()> {
     write_counts(out, bytes, sheet)?;
-    let mut page = [0; 16_384];
+    let mut page = [0; LONGEST];
     let length = print(sheet, &mut page)?;
     write_printed(out, &page[..length], sheet)?;
     Ok(())
@@ -65,7 +66,7 @@ fn write_printed(
 
 // Whether the text is read as the statements of the sheet, places aside.
 fn reads_as(text: &[u8], sheet: &[Placed<Statement>]) -> bool {
-    let mut records = [ZERO_RECORD; 256];
+    let mut records = [ZERO_RECORD; STATEMENTS];
     match read(text, &mut records) {
         Ok(count) => same_statements(&records[..count], sheet),
         Err(_) => false,
@@ -73,5 +74,5 @@ fn reads_as(text: &[u8], sheet: &[Placed<Statement>]) -> bool {
 }
 
 fn same_statements(left: &[Placed<Statement>], right: &[Placed<Statement>]) -> bool {
-    left.len() == right.len() && left.iter().zip(right).all(|(a, b)| a.item == b.item)
+    left.iter().map(|r| r.item).eq(right.iter().map(|r| r.item))
 }

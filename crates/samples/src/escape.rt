@@ -12,7 +12,7 @@ pub enum BadLine {
     NoText,
     #[error("the backslash in column {0} begins no escape, as \\\\, \\n or \\xHH do")]
     BadEscape(usize),
-    #[error("there is no memory for it")]
+    #[error("out of memory")]
     Memory(#[from(alloc)] AllocError),
 }
 

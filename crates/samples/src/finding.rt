@@ -1,5 +1,6 @@
 // What is found in the text of a sheet.
 use crate::escape::Escaped;
+use reader::limits::{LONGEST, STATEMENTS};
 use reader::types::{Placed, Statement, ZERO_RECORD};
 use reader::{print, read};
 use shown::{write_code, write_refused};
@@ -8,7 +9,7 @@ use survey::depth;
 
 // Writes how the text is refused; or the counts of its sheet, the sheet in printed form, and its code.
 pub fn write_finding(out: &mut impl Write, text: &[u8]) -> anyhow::Result<()> {
-    let mut records = [ZERO_RECORD; 256];
+    let mut records = [ZERO_RECORD; STATEMENTS];
     match read(text, &mut records) {
         Ok(count) => {
             write_sheet(out, &records[..count])?;
@@ -26,7 +27,7 @@ fn write_sheet(out: &mut impl Write, sheet: &[Placed<Statement>]) -> anyhow::Res
     let statements = sheet.len();
     let deepest = depth(sheet);
     writeln!(out, "{statements} statements, depth {deepest}")?;
-    let mut page = [0; 16_384];
+    let mut page = [0; LONGEST];
     let length = print(sheet, &mut page)?;
     let printed = Escaped(&page[..length]);
     writeln!(out, "printed {printed}")?;

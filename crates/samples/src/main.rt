@@ -28,7 +28,7 @@ fn main(rt: HostRuntime) -> anyhow::Result<()> {
 fn answer(out: &mut impl Write, heap: Global, line: &[u8]) -> anyhow::Result<()> {
     match sample_text(heap, line) {
         Ok(text) => write_finding(out, text.as_slice()),
-        Err(BadLine::Memory(_)) => Err(anyhow!("out of memory")),
+        Err(BadLine::Memory(e)) => Err(BadLine::Memory(e).into()),
         Err(bad) => {
             writeln!(out, "no sample: {bad}")?;
             Ok(())

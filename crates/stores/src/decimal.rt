@@ -14,6 +14,8 @@ const TOP: u32 = 999_999;
 
 // The numbers stand in the first bytes, six to each; all of these are digits, and so no number is above the top.
 // FlatStore is a type of its own: what both could share are the tests of i, and each promise on the memory differs.
+// That a call leaves the same memory, and the rest of it as it was, is a clause of its own, since no type says what is
+// left behind a `&mut`.
 #[derive(Drop)]
 pub struct DecimalStore<'a> {
     bytes: &'a mut [u8],
@@ -52,7 +54,7 @@ fn number_at(bytes: &[u8], at: usize) -> u32
 }
 
 // The six digits of v, the highest first. Each is a division by a constant; a map over the places would divide by a
-// variable.
+// variable. `u8::from` takes no `u32`, and `try_from` would fail in no case.
 fn digits_of(v: u32) -> [u8; 6]
     requires { v ≤ TOP }
     ensures { result ≡ v / 100000 ∷ v / 10000 % 10 ∷ v / 1000 % 10 ∷ v / 100 % 10 ∷ v / 10 % 10 ∷ v % 10 ∷ [] }

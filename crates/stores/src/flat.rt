@@ -13,6 +13,8 @@ use reader::types::Refusal;
 const TOP: u32 = u32::MAX;
 
 // The numbers are the first cells; none is above the top.
+// That a call leaves the same memory, and the rest of it as it was, is a clause of its own, since no type says what is
+// left behind a `&mut`.
 #[derive(Drop)]
 pub struct FlatStore<'a> {
     cells: &'a mut [u32],

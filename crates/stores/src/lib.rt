@@ -3,6 +3,6 @@
 
 pub mod decimal;
 pub mod flat;
-mod limits;
+pub mod limits;
 pub mod store;
 pub mod window;

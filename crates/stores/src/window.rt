@@ -7,7 +7,7 @@ ghost use Rattle.stores.specs.Windows.{seen, seen_sound, written_below, Stands};
 use crate::store::Store;
 use reader::types::Refusal;
 
-// Number i is number base + i of the store below.
+// Number i is number base + i of the store below. What a call leaves below is a clause of its own, as in the other stores.
 #[derive(Drop)]
 pub struct Window<'a, S> {
     below: &'a mut S,

@@ -8,7 +8,7 @@ ghost use Rattle.reader.specs.Checks.{loops_in};
 use reader::loop_count;
 use reader::types::{Kind, Placed, Statement};
 
-// How many of the records are LOOPs.
+// How many of the records are LOOPs: the reader's count, with what it says of a sheet.
 pub fn loops(records: &[Placed<Statement>]) -> usize
     ensures count { result ≡ loops_in records.now }
     ensures of_sheet { LoopsOfSheet records.now result }

@@ -33,7 +33,8 @@ fn file(
 
 // Files what a LOOP begins with, entry, test and countdown, and answers the index of the test, which has no end yet.
 // `small`, `room` and `lent` stay clauses, here and below: where a struct held the table and such a fact, it was not proved
-// what the memory holds once the struct is let go.
+// what the memory holds once the struct is let go. So does the premise `sheet`: which part of which sheet the records are
+// differs with each call.
 fn open_loop(
     flats: &mut Table<Placed<Flat>>,
     place: usize,

@@ -37,7 +37,7 @@ fn assignment(statement: Statement) -> Operation
 }
 
 // Lays the statement at an index, with its body, and answers the index behind it. Flat statements, bounds and draft stay
-// apart, as in flattening: no two calls have the same bounds.
+// apart, and the premise a clause, as in flattening: which part of which sheet it is differs with each call.
 #[cycle(lay_flats_lay_round_lay_statement)]
 fn lay_statement(flats: &[Placed<Flat>], at: usize, draft: &mut Draft) -> Result<usize, Refusal>
     requires { (b : ℕ) × (f : FlatSheet) × FlatSpan flats.now at b f × (at < b) }

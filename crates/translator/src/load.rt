@@ -28,7 +28,7 @@ fn clear<T: Copy>(memory: &mut [T], zero: T)
     Table::new(memory).clear(zero);
 }
 
-// The fault of a stage that knows no place.
+// The fault of a stage that knows no place; 0 stands for it, as the published table has it.
 fn unplaced(stage: Stage, item: Refusal) -> Fault
     ensures { result ≡ fault stage (placed 0 item) }
 {
@@ -112,6 +112,7 @@ pub fn load<'a>(
     if let Err(fault) = lay_sheet(text, records, flats, &mut draft) {
         return Err(give_up(fault, records, flats, draft));
     }
+    // No `map_err`: the check does not know what the memories hold after a closure that gives up.
     match draft.seal() {
         Ok(sealed) => Ok(sealed),
         Err((refusal, draft)) => Err(give_up(
