@@ -8,7 +8,8 @@ use caption_box::types::{Question, Ticked};
 use reader::types::Refusal;
 use stores::store::Store;
 
-// What runs: a show, a rehearsal, or both beside each other.
+// What runs: a show, a rehearsal, or both beside each other. The calls of the box are methods of each type, with contracts
+// of their own; here they only have one name.
 pub trait Performance {
     fn tick<S: Store>(&mut self, stores: &mut Twins<S>, k: u32) -> Result<Ticked, Refusal>;
 

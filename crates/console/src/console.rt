@@ -14,15 +14,14 @@ use std::alloc::Global;
 use std::io::Write;
 use stores::decimal::DecimalStore;
 use stores::flat::FlatStore;
+use stores::limits::MOST;
 use stores::store::Store;
 use translator::draft::HALT;
-
-// The most numbers that a store counts.
-const MOST: usize = 4_096;
+use translator::limits::INSTRUCTIONS;
 
 // Runs a script. The memory is enough for each sheet.
 pub fn run_script<W: Write>(out: &mut W, heap: Global, text: &[u8]) -> anyhow::Result<()> {
-    let mut code = [HALT; 548];
+    let mut code = [HALT; INSTRUCTIONS];
     // A sheet has six bytes before it, and a record for each eight of its own is enough (`room_for`).
     let mut records = vec![in heap; ZERO_RECORD; text.len() / 3 + 1]?;
     let mut none = [];
@@ -54,7 +53,8 @@ struct Player<'p, 's, W> {
 }
 
 impl<'p, 's, W: Write> Player<'p, 's, W> {
-    // Makes the stores, answers the line, and plays on them.
+    // Makes the stores, answers the line, and plays on them. That the script goes on (`Goes`) is a clause of all three, since
+    // no type says what is left behind a `&mut`. The arms are alike, but no function can hand out stores over memory of its own.
     fn play_over<'c>(
         &mut self,
         desk: Desk<'c>,

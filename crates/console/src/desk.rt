@@ -1,9 +1,10 @@
 // What stays from line to line besides the store.
 use crate::answer::{Answer, NotDone, Reply};
-use crate::line::{Call, Kind, Order};
+use crate::line::{Call, Order, RunKind};
 use crate::run::Run;
 use crate::twins::Twins;
 use crate::view::View;
+use reader::limits::STATEMENTS;
 use reader::types::{Placed, Statement};
 use stores::store::Store;
 
@@ -37,8 +38,8 @@ impl<'c> Desk<'c> {
             records,
         } = self;
         match order {
-            Order::Window { base, length } => {
-                let (view, reply) = narrow(view, stores, base, length);
+            Order::Window(upper) => {
+                let (view, reply) = narrow(view, stores, upper);
                 (Desk { run, view, records }, reply)
             }
             Order::Start(kind, inputs) => {
@@ -55,20 +56,19 @@ impl<'c> Desk<'c> {
 
 // Records enough for each sheet of that text: a statement and what parts it from the next have nine bytes at least.
 pub fn room_for(text: &[u8]) -> usize {
-    (text.len() / 8 + 1).min(256)
+    (text.len() / 8 + 1).min(STATEMENTS)
 }
 
 // Puts a window over the one that there is.
 fn narrow<S: Store>(
     view: Option<View>,
     stores: &mut Twins<S>,
-    base: usize,
-    length: usize,
+    upper: View,
 ) -> (Option<View>, Reply) {
     let Some(view) = view else {
         return (None, Err(NotDone::NoStore));
     };
-    let view = view.narrowed(base, length);
+    let view = view.narrowed(upper);
     let windows = stores.windows(view);
     (Some(view), Ok(Answer::of_store(&windows.first)))
 }
@@ -76,7 +76,7 @@ fn narrow<S: Store>(
 fn start<'c, S: Store>(
     run: Run<'c>,
     view: Option<View>,
-    kind: Kind,
+    kind: RunKind,
     stores: &mut Twins<S>,
     inputs: &[u32],
 ) -> (Run<'c>, Reply) {

@@ -2,6 +2,7 @@
 ghost use Rattle.std.specs.Prelude.{◌≡◌, ◌<◌, MatchResult};
 
 use crate::number::{number, steps};
+use crate::view::View;
 use caption_box::types::{Question, Tally};
 use std::alloc::{AllocError, Global};
 use std::str::SplitWhitespace;
@@ -25,14 +26,14 @@ pub enum Make {
 // What is done on a store.
 #[derive(Drop)]
 pub enum Order {
-    Window { base: usize, length: usize },
-    Start(Kind, Vec<u32>),
+    Window(View),
+    Start(RunKind, Vec<u32>),
     Call(Call),
 }
 
 // What is started: a show, a rehearsal, or a show with a rehearsal beside it.
 #[derive(Clone, Copy)]
-pub enum Kind {
+pub enum RunKind {
     Show,
     Rehearsal,
     Both,
@@ -67,14 +68,14 @@ pub fn parse(heap: Global, line: &str) -> Result<Line, BadLine> {
         "sheet" => sheet(words),
         "store" => store(words),
         "window" => window(words),
-        "start" => start(heap, words, Kind::Show, "start V.., each V a number"),
+        "start" => start(heap, words, RunKind::Show, "start V.., each V a number"),
         "rehearse" => start(
             heap,
             words,
-            Kind::Rehearsal,
+            RunKind::Rehearsal,
             "rehearse V.., each V a number",
         ),
-        "compare" => start(heap, words, Kind::Both, "compare V.., each V a number"),
+        "compare" => start(heap, words, RunKind::Both, "compare V.., each V a number"),
         "tick" => tick(words),
         "correct" => correct(words),
         "rewind" => Ok(called(Call::Rewind(inputs(heap, words, "rewind V.., each V a number")?))),
@@ -86,7 +87,7 @@ pub fn parse(heap: Global, line: &str) -> Result<Line, BadLine> {
 fn start(
     heap: Global,
     words: SplitWhitespace<'_>,
-    kind: Kind,
+    kind: RunKind,
     form: &'static str,
 ) -> Result<Line, BadLine> {
     let inputs = inputs(heap, words, form)?;
@@ -119,7 +120,7 @@ fn window(mut words: SplitWhitespace<'_>) -> Result<Line, BadLine> {
     let form = BadLine::Form("window BASE LENGTH, both numbers");
     let base = number(words.next().unwrap_or("")).ok_or(form)?;
     let length = last_number(words).ok_or(form)?;
-    Ok(Line::Order(Order::Window { base, length }))
+    Ok(Line::Order(Order::Window(View { base, length })))
 }
 
 fn tick(words: SplitWhitespace<'_>) -> Result<Line, BadLine> {

@@ -19,11 +19,7 @@ use std::io::{BufWriter, Read, Write};
 use std::{env, fs};
 
 fn main(rt: HostRuntime) -> anyhow::Result<()> {
-    run_with(&rt)
-}
-
-fn run_with(rt: &HostRuntime) -> anyhow::Result<()> {
-    let text = script_text(rt)?;
+    let text = script_text(&rt)?;
     let mut out = BufWriter::new(rt.alloc(), rt.stdout())?;
     run_script(&mut out, rt.alloc(), text.as_slice())?;
     out.flush()?;

@@ -3,7 +3,8 @@ ghost use Rattle.std.specs.Prelude.{◌≡◌, ◌<◌, min, true, length, Match
 ghost use Rattle.std.specs.Str.{all_ascii_digits};
 ghost use Rattle.reader.specs.Text.{value};
 
-// The number that a word of digits writes. Numbers above the largest usize count as that one.
+// The number that a word of digits writes. Numbers above the largest usize count as that one. `parse` would take a `+` too,
+// and has one kind of answer for no number and for one that is too large.
 pub fn number(word: &str) -> Option<usize>
     ensures { MatchOption result
         (all_ascii_digits word.now ≡ true → length word.now ≡ 0)

@@ -4,14 +4,15 @@ ghost use Rattle.std.specs.Prelude.{◌≤◌, length};
 use crate::answer::{Answer, Counts, NotDone, Reply};
 use crate::calls::{done, make_call};
 use crate::compare::Pair;
-use crate::line::{Call, Kind};
+use crate::line::{Call, RunKind};
 use crate::twins::Twins;
 use caption_box::rehearsal::Rehearsal;
 use caption_box::show::Show;
-use reader::types::{Kind as StatementKind, Placed, Statement};
+use reader::types::{Kind, Placed, Statement};
 use stores::store::Store;
 use survey::depth;
 use translator::draft::SealedCode;
+use translator::limits::FLATS;
 use translator::load::{RefusedLoad, load};
 use translator::types::{Instruction, ZERO_FLAT};
 
@@ -53,8 +54,8 @@ impl<'c> Run<'c> {
         }
     }
 
-    // The memory for code, and nothing in it that is wanted.
-    fn cleared(self) -> &'c mut [Instruction] {
+    // The memory for code, with what it holds.
+    fn into_memory(self) -> &'c mut [Instruction] {
         match self {
             Run::Bare(memory) => memory,
             Run::Loaded(loaded) => loaded.sealed.give_back(),
@@ -66,21 +67,21 @@ impl<'c> Run<'c> {
 
     // Loads a sheet in the place of what there was.
     pub fn load(self, text: &[u8], records: &'c mut [Placed<Statement>]) -> (Run<'c>, Reply) {
-        load_into(self.cleared(), records, text)
+        load_into(self.into_memory(), records, text)
     }
 
     // Starts a run in the place of the one that there is, if any.
     pub fn start<S: Store>(
         self,
-        kind: Kind,
+        kind: RunKind,
         stores: &mut Twins<S>,
         inputs: &[u32],
     ) -> (Run<'c>, Reply) {
         match self.put_away() {
             Run::Loaded(loaded) => match kind {
-                Kind::Show => loaded.start_show(stores, inputs),
-                Kind::Rehearsal => loaded.start_rehearsal(stores, inputs),
-                Kind::Both => loaded.start_both(stores, inputs),
+                RunKind::Show => loaded.start_show(stores, inputs),
+                RunKind::Rehearsal => loaded.start_rehearsal(stores, inputs),
+                RunKind::Both => loaded.start_both(stores, inputs),
             },
             bare => (bare, Err(NotDone::NoSheet)),
         }
@@ -154,7 +155,7 @@ fn load_into<'c>(
     records: &'c mut [Placed<Statement>],
     text: &[u8],
 ) -> (Run<'c>, Reply) {
-    let mut flats = [ZERO_FLAT; 320];
+    let mut flats = [ZERO_FLAT; FLATS];
     match load(text, records, &mut flats, memory) {
         Ok(sealed) => {
             let records = sheet_of(records);
@@ -183,6 +184,6 @@ fn statements(records: &[Placed<Statement>]) -> usize
 {
     records
         .iter()
-        .filter(|record| record.item.kind != StatementKind::Zero)
+        .filter(|record| record.item.kind != Kind::Zero)
         .count()
 }

@@ -20,13 +20,13 @@ impl View {
         }
     }
 
-    // The window that shows what a window over this one would show.
-    pub fn narrowed(self, base: usize, length: usize) -> View
-        ensures { Composed self.base self.length base length result.base result.length }
+    // The window that shows what that window over this one would show.
+    pub fn narrowed(self, upper: View) -> View
+        ensures { Composed self.base self.length upper.base upper.length result.base result.length }
     {
         View {
-            base: self.base.saturating_add(base),
-            length: length.min(self.length.saturating_sub(base)),
+            base: self.base.saturating_add(upper.base),
+            length: upper.length.min(self.length.saturating_sub(upper.base)),
         }
     }
 }

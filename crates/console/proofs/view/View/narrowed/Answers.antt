@@ -4,5 +4,5 @@ use Rattle.console.proofs.view.View.narrowed.Goals as goal
 
 pub returns : goal.returns
 returns c =
-    composed c.args.self.base c.args.self.length c.args.base c.args.length c.saturating_add.result c.min.result
-    c.saturating_add.ensures (c.min.ensures ∙ ap (min c.args.length) c.saturating_sub.ensures)
+    composed c.args.self.base c.args.self.length c.args.upper.base c.args.upper.length c.saturating_add.result c.min.result
+    c.saturating_add.ensures (c.min.ensures ∙ ap (min c.args.upper.length) c.saturating_sub.ensures)
