@@ -1,11 +1,9 @@
 // The calls of a rehearsal. Start gives one that is `Rehearsed`, and every call keeps it so. A tick is then exactly one of
 // the written run; what the other calls do and answer needs no such premise.
-ghost use Rattle.std.specs.Prelude.{◌≡◌, Ok, Err, IfOk, MatchResult};
+ghost use Rattle.std.specs.Prelude.{◌≡◌, IfOk, MatchResult};
 ghost use Rattle.caption_box.specs.declared.types.Question.TheVariants.{Register};
 ghost use Rattle.caption_box.specs.WrittenCalls.{written_outcome, written_ticks, written_rewinds, written_corrects, written_asks};
-ghost use Rattle.caption_box.specs.Left.{Leaves};
-ghost use Rattle.caption_box.specs.Calls.{seats, seated};
-ghost use Rattle.caption_box.specs.Rehearsals.{AtFirst, written_scene_on, Rehearsed, WrittenStarted, WrittenUnstarted};
+ghost use Rattle.caption_box.specs.Rehearsals.{written_scene_on, Rehearsed, WrittenStarted, WrittenUnstarted};
 
 use super::Rehearsal;
 use super::counting::WrittenTallies;
@@ -33,22 +31,7 @@ impl<'a> Rehearsal<'a> {
         if !is_sheet(records) {
             return Err(Refusal::NoSheet);
         }
-        Rehearsal::begin(records, store, inputs)
-    }
-
-    // A rehearsal at its beginning, whatever the records.
-    fn begin<S: Store>(
-        records: &'a [Placed<Statement>],
-        store: &mut S,
-        inputs: &[u32],
-    ) -> Result<Rehearsal<'a>, Refusal>
-        ensures left { Leaves S.Store store.old (seated 32 (S.Store.limit store.old) (S.Store.numbers store.old) inputs.now) store.new }
-        ensures answer { MatchResult result
-            (λ s. (s.records ≡ records.entry) × AtFirst s × (seats 32 (S.Store.limit store.old) (S.Store.numbers store.old) inputs.now ≡ Ok tt))
-            (λ e. seats 32 (S.Store.limit store.old) (S.Store.numbers store.old) inputs.now ≡ Err e) }
-    {
-        seat(NAMED, store, inputs)?;
-        Ok(Rehearsal {
+        seat(NAMED, store, inputs).map(|()| Rehearsal {
             records,
             position: Position::default(),
             tallies: WrittenTallies::default(),
@@ -73,7 +56,9 @@ impl<'a> Rehearsal<'a> {
         ensures kept { Rehearsed self.old → Rehearsed self.new }
         ensures exact { written_outcome result (written_scene_on S.Store self.new store.new) ≡ written_rewinds (written_scene_on S.Store self.old store.old) inputs.now }
     {
-        *self = Rehearsal::begin(self.records, store, inputs)?;
+        seat(NAMED, store, inputs)?;
+        self.position = Position::default();
+        self.tallies = WrittenTallies::default();
         Ok(())
     }
 

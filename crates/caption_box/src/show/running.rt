@@ -35,11 +35,14 @@ impl<'c> Show<'c> {
         let Some(instruction) = self.sealed.get(self.next) else {
             return State::Unfit;
         };
-        let n = self.sealed.registers();
-        let size = self.sealed.len();
-        let state = fate(instruction.operation, n, size, store);
+        let state = fate(
+            instruction.operation,
+            self.sealed.registers(),
+            self.sealed.len(),
+            store,
+        );
         if state == State::Time {
-            let moved = perform(instruction.operation, self.next, n, size, store);
+            let moved = perform(instruction.operation, self.next, store);
             self.next = moved.next;
             self.tallies.raise(instruction.role, moved.found);
         }

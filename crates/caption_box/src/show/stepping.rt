@@ -1,5 +1,5 @@
 // One step of an operation over a store.
-ghost use Rattle.std.specs.Prelude.{◌≡◌, suc, ◌<◌, false};
+ghost use Rattle.std.specs.Prelude.{◌≡◌, ℕ, suc, ◌^◌, ◌<◌, false};
 ghost use Rattle.caption_box.specs.declared.types.State.TheVariants.{Time};
 ghost use Rattle.caption_box.specs.Left.{Leaves};
 ghost use Rattle.caption_box.specs.Stepping.{fate as fate_of, stored as stored_by, label_after, finds_more};
@@ -46,15 +46,9 @@ impl Moved {
 }
 
 // Does an operation that can be done; it stands at the index `at`.
-pub(super) fn perform<S: Store>(
-    operation: Operation,
-    at: usize,
-    n: usize,
-    size: usize,
-    store: &mut S,
-) -> Moved
-    requires inside { at < size }
-    requires time { fate_of (S.Store.limit store.old) n size (S.Store.numbers store.old) operation ≡ Time }
+pub(super) fn perform<S: Store>(operation: Operation, at: usize, store: &mut S) -> Moved
+    requires room { suc at < 2 ^ 64 }
+    requires time { (n size : ℕ) × (fate_of (S.Store.limit store.old) n size (S.Store.numbers store.old) operation ≡ Time) }
     ensures left { Leaves S.Store store.old (stored_by (S.Store.numbers store.old) operation) store.new }
     ensures next { suc result.next ≡ label_after (S.Store.numbers store.old) (suc at) operation }
     ensures found { result.found ≡ finds_more (S.Store.numbers store.old) operation }
