@@ -1,4 +1,5 @@
-// What the calls of shows and of rehearsals refuse alike.
+// What the calls of shows and of rehearsals refuse alike. The calls themselves stay two: each names its width and the type of
+// its tallies, and what else stands in them is which of these it asks, in the order of the table.
 ghost use Rattle.std.specs.Prelude.{◌≡◌, ◌+◌, cond, length, Ok, Err, nat_lt};
 ghost use Rattle.reader.specs.declared.types.Refusal.TheVariants.{NoRegister, SmallStore, LongTick, LongShow};
 ghost use Rattle.stores.specs.Stores.{read_of};

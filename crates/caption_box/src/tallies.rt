@@ -16,7 +16,8 @@ pub struct Tallies {
 impl Tallies {
     ghost use Rattle.caption_box.specs.Tallies.{counts_of, counted, largest_of, tally_of};
 
-    // The largest tally, which is that of the box steps in every show that was started.
+    // The largest tally, which is that of the box steps in every show that was started. A show may hold any tallies, so the
+    // largest of all is what must not overflow.
     pub(crate) fn largest(&self) -> u64
         ensures { result ≡ largest_of self.now }
     {

@@ -1,5 +1,5 @@
 // What is said of a sheet that is in order.
-use crate::shown::Shown;
+use crate::visible::Visible;
 use reader::limits::{LONGEST, STATEMENTS};
 use reader::types::{Placed, Statement, ZERO_RECORD};
 use reader::{print, read};
@@ -41,7 +41,7 @@ fn write_printed(
     printed: &[u8],
     sheet: &[Placed<Statement>],
 ) -> io::Result<()> {
-    let shown = Shown(printed);
+    let shown = Visible(printed);
     writeln!(out, "Printed form:")?;
     writeln!(out)?;
     writeln!(out, "{shown}")?;

@@ -1,6 +1,6 @@
 // What is said of a sheet that is refused.
 use crate::position::Position;
-use crate::shown::{Blanks, Shown};
+use crate::visible::{Blanks, Visible};
 use reader::types::{Placed, Refusal, Word};
 use reader::word_at;
 use std::fmt;
@@ -44,7 +44,7 @@ fn write_position<W: fmt::Write>(
     if is_end {
         write!(f, ", at the end of the text")?;
     } else if word.length > 0 {
-        let shown = Shown(word.bytes);
+        let shown = Visible(word.bytes);
         write!(f, ", at the word {shown}")?;
     }
     writeln!(f, ":")
@@ -56,8 +56,8 @@ fn write_line<W: fmt::Write>(
     position: Position<'_>,
     word: Word<'_>,
 ) -> fmt::Result {
-    let before = Shown(position.before);
-    let after = Shown(position.after);
+    let before = Visible(position.before);
+    let after = Visible(position.after);
     let blanks = Blanks(position.before);
     writeln!(f)?;
     writeln!(f, "  | {before}{after}")?;

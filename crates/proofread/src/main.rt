@@ -4,7 +4,7 @@
 mod accepted;
 mod fault;
 mod position;
-mod shown;
+mod visible;
 
 use accepted::write_accepted;
 use fault::Fault;

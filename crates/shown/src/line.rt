@@ -49,7 +49,7 @@ impl fmt::Display for Shown {
     }
 }
 
-// The letter of a role.
+// The letter of a role. It is a text already, so that a Display would only write it again.
 fn letter(role: Role) -> &'static str
     ensures { result.now ≡ role_letter role }
 {

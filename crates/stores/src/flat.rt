@@ -42,7 +42,7 @@ impl<'a> FlatStore<'a> {
         FlatStore { cells }
     }
 
-    // Lets the memory go again, as it is.
+    // Lets the memory go again, as it is. Each store has its own `close`, since what it lets go is of its own type.
     pub fn close(self)
         ensures { self.exit.0.now ≡ self.entry.cells.now }
     {

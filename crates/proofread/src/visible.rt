@@ -3,9 +3,9 @@ use std::fmt;
 
 // Bytes on one line: printable ASCII characters as they are, any other byte as \xHH.
 #[derive(Clone, Copy)]
-pub struct Shown<'a>(pub &'a [u8]);
+pub struct Visible<'a>(pub &'a [u8]);
 
-impl fmt::Display for Shown<'_> {
+impl fmt::Display for Visible<'_> {
     fn fmt<W: fmt::Write>(&self, f: &mut fmt::Formatter<W>) -> fmt::Result {
         for byte in self.0 {
             if is_printable(*byte) {
