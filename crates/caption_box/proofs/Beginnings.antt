@@ -1,5 +1,6 @@
 -- The beginning of a rehearsal: what start and rewind make of a seating.
-use Rattle.std.proofs.Common.{◌≡◌, ℕ, Bool, true, false, cond, ltb, List, [], length, Ok, Err, Result, MatchResult, sym, refl, ap, ◌∙◌, subst, inr, arith}
+use Rattle.std.proofs.Common.{◌≡◌, ℕ, Bool, true, false, cond, ltb, List, [], length, Ok, Err, Result, IfOk, MatchResult, sym, refl, ap, ◌∙◌, subst, inr, arith}
+use Rattle.std.specs.Result.{result_and}
 use Rattle.reader.specs.declared.types.Refusal.{Refusal}
 use Rattle.reader.specs.declared.types.Refusal.TheVariants.{SmallStore, ManyInputs, OverTop}
 use Rattle.reader.specs.Sheet.{Sheet}
@@ -7,13 +8,16 @@ use Rattle.reader.specs.WrittenRun.{Counts, running, no_counts}
 use Rattle.reader.specs.Checks.{IsSheet}
 use Rattle.reader.proofs.Spans.{sheet_span}
 use Rattle.caption_box.specs.declared.rehearsal.Rehearsal.{Rehearsal}
+use Rattle.caption_box.specs.declared.rehearsal.walking.Position.{Position}
+use Rattle.caption_box.specs.declared.rehearsal.counting.WrittenTallies.{WrittenTallies}
 use Rattle.caption_box.specs.Seats.{all_below}
 use Rattle.caption_box.specs.Calls.{seats, seated}
-use Rattle.caption_box.specs.Rests.{Recs, position_of, rest_in, rest_of, Stands}
-use Rattle.caption_box.specs.WrittenSteps.{Counted}
+use Rattle.caption_box.specs.Rests.{Recs, levels_of, position_of, rest_in, rest_of, Stands}
+use Rattle.caption_box.specs.WrittenSteps.{written_counts, Counted}
 use Rattle.caption_box.specs.WrittenCalls.{WrittenScene, written_scene, WrittenOutcome, written_outcome, written_beginning, written_rewinds}
-use Rattle.caption_box.specs.Rehearsals.{AtFirst, written_counts, records_of, whole_of, written_scene_of, Rehearsed, WrittenStarted, WrittenUnstarted}
+use Rattle.caption_box.specs.Rehearsals.{AtFirst, records_of, whole_of, written_scene_of, WrittenStarted, WrittenUnstarted}
 use Rattle.caption_box.proofs.Levels.{begins}
+use Rattle.caption_box.proofs.Told.{rehearsed}
 use Rattle.caption_box.proofs.Seats.{seated_done, seated_kept}
 
 -- what a rewind answers is what the seating answered
@@ -45,39 +49,41 @@ rewinds_kept x xs f bad = go (ltb (length x.run.registers) 32) (ltb 31 (length x
 none-counted : (n : Counts) → n ≡ no_counts → Counted n
 none-counted n e = subst Counted (sym e) (record { steps = omega arith; entered = omega arith; whiles = omega arith; rounds = omega arith })
 
--- before the first statement, with clear tallies, on numbers that were seated with n registers
-module _ (s : Rehearsal) (first : AtFirst s) where
-  position_is : s.position ≡ position_of 0 []
-  position_is i = position_of (first.index i) (first.levels i)
+-- before the first statement, with clear tallies
+module _ (rs : Recs) (p : Position) (t : WrittenTallies) (index : p.at ≡ 0) (levels : levels_of p ≡ []) (clear : written_counts t ≡ no_counts) where
+  position_is : p ≡ position_of 0 []
+  position_is i = position_of (index i) (levels i)
 
-  rest_is : rest_of (records_of s) s.position ≡ whole_of (records_of s)
+  pub first_stands : IsSheet rs → Stands rs p
+  first_stands h = subst (Stands rs) (sym position_is) (begins rs h).0
+
+  pub first_counted : Counted (written_counts t)
+  first_counted = none-counted (written_counts t) clear
+
+  rest_is : rest_of rs p ≡ whole_of rs
   unfolding rest_in
-  rest_is = ap (rest_of (records_of s)) position_is
+  rest_is = ap (rest_of rs) position_is
 
-  pub first_rehearsed : IsSheet (records_of s) → Rehearsed s
-  first_rehearsed h =
-      record {
-        sheet = h;
-        stands = subst (Stands (records_of s)) (sym position_is) (begins (records_of s) h).0;
-        counted = none-counted (written_counts s.tallies) first.clear;
-      }
-
+  -- on numbers that were seated with n registers
   module _ (top top' : ℕ) (ν ν' xs : List ℕ) (ok : seats 32 top ν xs ≡ Ok tt) (en : ν' ≡ seated 32 top ν xs) (et : top' ≡ top) where
-    begun : written_scene_of s ν' top' ≡ written_scene (whole_of (records_of s)) top (written_beginning (whole_of (records_of s)) xs ν)
-    begun = let en' = en ∙ seated_done 32 top ν xs ok in λ i. written_scene (whole_of (records_of s)) (et i) (running (en' i) (rest_is i) (first.clear i))
+    begun : written_scene (whole_of rs) top' (running ν' (rest_of rs p) (written_counts t)) ≡ written_scene (whole_of rs) top (written_beginning (whole_of rs) xs ν)
+    begun = let en' = en ∙ seated_done 32 top ν xs ok in λ i. written_scene (whole_of rs) (et i) (running (en' i) (rest_is i) (clear i))
 
-    pub rehearsal_rewound : (s₀ : Rehearsal) → records_of s ≡ records_of s₀ → written_outcome (Ok tt) (written_scene_of s ν' top') ≡ written_rewinds (written_scene_of s₀ ν top) xs
-    rehearsal_rewound s₀ same =
-        ap (written_outcome (Ok tt)) (begun ∙ ap (λ (rs : Recs). written_scene (whole_of rs) top (written_beginning (whole_of rs) xs ν)) same)
-        ∙ sym (rewinds_done (written_scene_of s₀ ν top) xs ok)
+    pub rehearsal_rewound : (s : Rehearsal) → records_of s ≡ rs
+        → written_outcome (Ok tt) (written_scene (whole_of rs) top' (running ν' (rest_of rs p) (written_counts t))) ≡ written_rewinds (written_scene_of s ν top) xs
+    rehearsal_rewound s same =
+        ap (written_outcome (Ok tt)) (begun ∙ sym (ap (λ (l : Recs). written_scene (whole_of l) top (written_beginning (whole_of l) xs ν)) same))
+        ∙ sym (rewinds_done (written_scene_of s ν top) xs ok)
 
-    pub rehearsal_started : IsSheet (records_of s) → WrittenStarted (records_of s) top ν xs s (written_scene_of s ν' top')
-    rehearsal_started h =
-        record {
-          rehearsed = first_rehearsed h;
-          seated = ok;
-          scene = λ g. begun ∙ ap (λ (p : Sheet). written_scene p top (written_beginning p xs ν)) (sheet_span (records_of s) g);
-        }
+rehearsal_started : (s : Rehearsal) → AtFirst s → (top top' : ℕ) (ν ν' xs : List ℕ) → seats 32 top ν xs ≡ Ok tt → ν' ≡ seated 32 top ν xs → top' ≡ top
+    → WrittenStarted (records_of s) top ν xs s (written_scene_of s ν' top')
+rehearsal_started s first top top' ν ν' xs ok en et =
+    record {
+      rehearsed = rehearsed s;
+      seated = ok;
+      scene = λ g. begun (records_of s) s.position s.tallies first.index first.levels first.clear top top' ν ν' xs ok en et
+          ∙ ap (λ (p : Sheet). written_scene p top (written_beginning p xs ν)) (sheet_span (records_of s) g);
+    }
 
 -- a seating that is refused
 module _ (top top' : ℕ) (ν ν' xs : List ℕ) (f : Refusal) (bad : seats 32 top ν xs ≡ Err f) (en : ν' ≡ seated 32 top ν xs) (et : top' ≡ top) where
@@ -90,13 +96,13 @@ module _ (top top' : ℕ) (ν ν' xs : List ℕ) (f : Refusal) (bad : seats 32 t
   pub rehearsal_unstarted : (rs : Recs) → IsSheet rs → WrittenUnstarted rs top ν xs f ν'
   rehearsal_unstarted rs h = record { refused = inr (h, bad); numbers = kept }
 
--- what a start comes to, by the rehearsal at its beginning or the refusal
-pub started_told : (rs : Recs) (top top' : ℕ) (ν ν' xs : List ℕ) (b : Result Rehearsal Refusal) (P : Rehearsal → Type 0)
-    → ((s : Rehearsal) → P s → records_of s ≡ rs)
-    → MatchResult b (λ s. P s × AtFirst s × (seats 32 top ν xs ≡ Ok tt)) (λ e. seats 32 top ν xs ≡ Err e)
-    → ν' ≡ seated 32 top ν xs → top' ≡ top → IsSheet rs
-    → MatchResult b (λ s. WrittenStarted rs top ν xs s (written_scene_of s ν' top')) (λ e. WrittenUnstarted rs top ν xs e ν')
-started_told rs top top' ν ν' xs (Ok s) P same (p, first, ok) en et h =
-    subst (λ (l : Recs). WrittenStarted l top ν xs s (written_scene_of s ν' top')) (same s p)
-    (rehearsal_started s first top top' ν ν' xs ok en et (subst IsSheet (sym (same s p)) h))
-started_told rs top top' ν ν' xs (Err e) P same bad en et h = rehearsal_unstarted top top' ν ν' xs e bad en et rs h
+-- what a start comes to, by what the seating answered
+pub started_same : (s : Rehearsal) (r : Result (Unit {0}) Refusal) → IfOk (result_and r (Ok s)) (λ (t : Rehearsal). t.records ≡ s.records)
+started_same s (Ok x) = refl
+started_same s (Err e) = tt
+
+pub started_told : (s : Rehearsal) → AtFirst s → (top top' : ℕ) (ν ν' xs : List ℕ) (r : Result (Unit {0}) Refusal)
+    → r ≡ seats 32 top ν xs → ν' ≡ seated 32 top ν xs → top' ≡ top
+    → MatchResult (result_and r (Ok s)) (λ t. WrittenStarted (records_of s) top ν xs t (written_scene_of t ν' top')) (λ e. WrittenUnstarted (records_of s) top ν xs e ν')
+started_told s first top top' ν ν' xs (Ok x) er en et = rehearsal_started s first top top' ν ν' xs (sym er) en et
+started_told s first top top' ν ν' xs (Err e) er en et = rehearsal_unstarted top top' ν ν' xs e (sym er) en et (records_of s) (rehearsed s).sheet

@@ -13,5 +13,6 @@ pub mod Fines
 pub mod Levels
 pub mod Leaving
 pub mod WrittenSteps
+pub mod Told
 pub mod Rehearsing
 pub mod Beginnings

@@ -16,12 +16,13 @@ use Rattle.caption_box.specs.declared.rehearsal.counting.WrittenTallies.{Written
 use Rattle.caption_box.specs.declared.rehearsal.Rehearsal.{Rehearsal}
 use Rattle.caption_box.specs.Calls.{state_of, onward}
 use Rattle.caption_box.specs.Rests.{Recs, levels_of, depth_of, rest_in, rest_of, body_end, Stands, Held, leaves, leaves_while, rest_behind, rest_after, Reaches}
-use Rattle.caption_box.specs.WrittenSteps.{found_in, kind_fate, written_fate, written_stored, counted_while, written_counted, Counted}
-use Rattle.caption_box.specs.Rehearsals.{written_counts, records_of, run_of, Rehearsed, Stepped}
+use Rattle.caption_box.specs.WrittenSteps.{written_counts, found_in, kind_fate, written_fate, written_stored, counted_while, written_counted, Counted}
+use Rattle.caption_box.specs.Rehearsals.{records_of, run_of, Stepped}
 use Rattle.caption_box.proofs.Fines.{Real, fines}
 use Rattle.caption_box.proofs.Levels.{ends, rest_here, stands_within, at_within}
 use Rattle.caption_box.proofs.Leaving.{record_past}
 use Rattle.caption_box.proofs.ManySteps.{stayed}
+use Rattle.caption_box.proofs.Told.{rehearsed}
 
 low_state : (b : Bool) (w : WrittenRun) → state_of (if_low b w) ≡ cond b Time Over
 low_state true w = refl
@@ -120,34 +121,45 @@ module _ (s : Rehearsal) (top : ℕ) (ν : List ℕ) (x : Statement) (o : State)
   here : o ≡ written_fate top ν (at (records_of s) s.position.at)
   here = eo ∙ ap (written_fate top ν) ex
 
-  pub looked : Rehearsed s → o ≡ state_of (written_step top (run_of s ν))
-  looked h = here ∙ fate_told (records_of s) h.sheet s.position h.stands top ν (written_counts s.tallies)
+  pub looked : o ≡ state_of (written_step top (run_of s ν))
+  looked = let h = rehearsed s in here ∙ fate_told (records_of s) h.sheet s.position h.stands top ν (written_counts s.tallies)
 
   -- it cannot be done
-  pub step_stays : (o ≡ Time → ⊥) → Rehearsed s → Stepped top s ν o s ν
-  step_stays stop h = record { kept = h; state = looked h; moved = sym (stayed (written_step top (run_of s ν)) (run_of s ν) (λ e. stop (looked h ∙ e))) }
+  pub step_stays : (o ≡ Time → ⊥) → Stepped top s ν o s ν
+  step_stays stop = record { kept = rehearsed s; state = looked; moved = sym (stayed (written_step top (run_of s ν)) (run_of s ν) (λ e. stop (looked ∙ e))) }
 
   -- it is done
-  pub step_done : o ≡ Time → (ν' : List ℕ) (v : ℕ) (t : WrittenTallies) (q : Position) → ν' ≡ written_stored x.kind ν x → v ≡ found_in ν x → v ≤ 4294967295
-      → s.tallies.written < 1099511627776
-      → (Counted (written_counts s.tallies) → written_counts t ≡ written_counted x.kind v (written_counts s.tallies))
-      → (IsSheet (records_of s) → Held (records_of s) s.position → x.kind ≡ (at (records_of s) s.position.at).kind → Reaches (records_of s) q (rest_after (records_of s) s.position v))
-      → Rehearsed s → Stepped top s ν o (record { records = s.records; position = q; tallies = t }) ν'
-  step_done time ν' v t q en ev le more et reach h =
-      let rs = records_of s in
-      let p = s.position in
-      let r = at rs p.at in
-      let n = written_counts s.tallies in
-      let w = held_time rs p h.stands top ν (sym here ∙ time) in
-      let found : v ≡ found_in ν r = ev ∙ ap (found_in ν) ex in
-      let stored : ν' ≡ written_stored r.kind ν r = en ∙ ap (λ (y : Statement). written_stored y.kind ν y) ex in
-      let counts : written_counts t ≡ written_counted r.kind v n = et h.counted ∙ ap (λ (y : Statement). written_counted y.kind v n) ex in
-      let left = reach h.sheet w (ap (λ (y : Statement). y.kind) ex) in
-      let counts' = counts ∙ ap (λ (y : ℕ). written_counted r.kind y n) found in
-      let left' = left.left ∙ ap (rest_after rs p) found in
-      let did = went_here rs h.sheet p w top ν n (sym here ∙ time) in
-      record {
-        kept = record { sheet = h.sheet; stands = left.stands; counted = counted_on r.kind v n (written_counts t) le h.counted more counts };
-        state = looked h;
-        moved = (λ i. running (stored i) (left' i) (counts' i)) ∙ sym (ap (λ (y : Next WrittenRun). onward y (run_of s ν)) did);
-      }
+  module _ (time : o ≡ Time) (v : ℕ) (t : WrittenTallies) (q : Position) (ev : v ≡ found_in ν x) (le : v ≤ 4294967295) (more : s.tallies.written < 1099511627776)
+      (et : Counted (written_counts s.tallies) → written_counts t ≡ written_counted x.kind v (written_counts s.tallies))
+      (reach : IsSheet (records_of s) → Held (records_of s) s.position → x.kind ≡ (at (records_of s) s.position.at).kind → Reaches (records_of s) q (rest_after (records_of s) s.position v)) where
+    counts : written_counts t ≡ written_counted (at (records_of s) s.position.at).kind v (written_counts s.tallies)
+    counts = et s.counted ∙ ap (λ (y : Statement). written_counted y.kind v (written_counts s.tallies)) ex
+
+    held : Held (records_of s) s.position
+    held = held_time (records_of s) s.position (rehearsed s).stands top ν (sym here ∙ time)
+
+    left : Reaches (records_of s) q (rest_after (records_of s) s.position v)
+    left = reach (rehearsed s).sheet held (ap (λ (y : Statement). y.kind) ex)
+
+    pub step_stands : Stands (records_of s) q
+    step_stands = left.stands
+
+    pub step_counted : Counted (written_counts t)
+    step_counted = counted_on (at (records_of s) s.position.at).kind v (written_counts s.tallies) (written_counts t) le s.counted more counts
+
+    pub step_done : (ν' : List ℕ) → ν' ≡ written_stored x.kind ν x → (s' : Rehearsal) → records_of s' ≡ records_of s → s'.position ≡ q → s'.tallies ≡ t → Stepped top s ν o s' ν'
+    step_done ν' en s' same eq es =
+        let rs = records_of s in
+        let p = s.position in
+        let r = at rs p.at in
+        let n = written_counts s.tallies in
+        let found : v ≡ found_in ν r = ev ∙ ap (found_in ν) ex in
+        let stored : ν' ≡ written_stored r.kind ν r = en ∙ ap (λ (y : Statement). written_stored y.kind ν y) ex in
+        let counts' : written_counts s'.tallies ≡ written_counted r.kind (found_in ν r) n = ap written_counts es ∙ counts ∙ ap (λ (y : ℕ). written_counted r.kind y n) found in
+        let left' : rest_of (records_of s') s'.position ≡ rest_after rs p (found_in ν r) = (λ i. rest_of (same i) (eq i)) ∙ left.left ∙ ap (rest_after rs p) found in
+        let did = went_here rs (rehearsed s).sheet p held top ν n (sym here ∙ time) in
+        record {
+          kept = rehearsed s';
+          state = looked;
+          moved = (λ i. running (stored i) (left' i) (counts' i)) ∙ sym (ap (λ (y : Next WrittenRun). onward y (run_of s ν)) did);
+        }

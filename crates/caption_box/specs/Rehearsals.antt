@@ -5,7 +5,7 @@ use Rattle.reader.specs.declared.types.Refusal.TheVariants.{NoSheet}
 use Rattle.reader.specs.Sheet.{Sheet}
 use Rattle.reader.specs.Checks.{IsSheet, span}
 use Rattle.reader.specs.Steps.{many_done}
-use Rattle.reader.specs.WrittenRun.{Counts, no_counts, WrittenRun, running, written_step, written_steps}
+use Rattle.reader.specs.WrittenRun.{no_counts, WrittenRun, running, written_step, written_steps}
 use Rattle.stores.specs.declared.store.Store.{Ghosts}
 use Rattle.caption_box.specs.declared.types.State.{State}
 use Rattle.caption_box.specs.declared.types.Tally.{Tally}
@@ -15,11 +15,8 @@ use Rattle.caption_box.specs.declared.rehearsal.counting.WrittenTallies.{Written
 use Rattle.caption_box.specs.Calls.{state_of, onward, seats}
 use Rattle.caption_box.specs.Tallies.{tally}
 use Rattle.caption_box.specs.Rests.{Recs, levels_of, rest_of, Stands}
-use Rattle.caption_box.specs.WrittenSteps.{Counted}
+use Rattle.caption_box.specs.WrittenSteps.{written_counts, Counted}
 use Rattle.caption_box.specs.WrittenCalls.{WrittenScene, written_scene, written_beginning}
-
-abbrev pub written_counts : WrittenTallies → Counts
-written_counts t = record { written = t.written; entered = t.entered; rounds = t.rounds; whiles = t.whiles }
 
 -- the tally that is asked for; box steps are 0
 abbrev pub written_tally : WrittenTallies → Tally → ℕ
@@ -51,7 +48,7 @@ pub record AtFirst (s : Rehearsal) : Type 0 where
   pub levels : levels_of s.position ≡ []
   pub clear : written_counts s.tallies ≡ no_counts
 
--- what start gives and every call keeps: the records are those of a sheet, the position stands in it, and the tallies are as bounded as the written steps
+-- what holds of every rehearsal, by the facts in its type (proofs/Told): the records are those of a sheet, the position stands in it, and the tallies are as bounded as the written steps
 pub record Rehearsed (s : Rehearsal) : Type 0 where
   pub sheet : IsSheet (records_of s)
   pub stands : Stands (records_of s) s.position

@@ -5,6 +5,7 @@ use Rattle.reader.specs.declared.types.Statement.{Statement}
 use Rattle.reader.specs.declared.types.Kind.{Kind}
 use Rattle.reader.specs.declared.types.Kind.TheVariants.{Zero, Plus, Minus, Loop, While}
 use Rattle.reader.specs.WrittenRun.{Counts, one_plain, one_loop, one_while}
+use Rattle.caption_box.specs.declared.rehearsal.counting.WrittenTallies.{WrittenTallies}
 use Rattle.caption_box.specs.declared.types.State.{State}
 use Rattle.caption_box.specs.declared.types.State.TheVariants.{Ended, Unfit, Over, Time}
 
@@ -43,6 +44,10 @@ written_counted Plus v n = one_plain n
 written_counted Minus v n = one_plain n
 written_counted Loop v n = one_loop v n
 written_counted While v n = counted_while v n
+
+-- the tallies of a rehearsal as counts
+abbrev pub written_counts : WrittenTallies → Counts
+written_counts t = record { written = t.written; entered = t.entered; rounds = t.rounds; whiles = t.whiles }
 
 -- at most 2 ^ 40 written steps, and no more LOOPs, rounds and WHILE rounds than so many steps can count
 pub record Counted (n : Counts) : Type 0 where

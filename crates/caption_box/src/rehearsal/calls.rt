@@ -1,5 +1,5 @@
-// The calls of a rehearsal. Start gives one that is `Rehearsed`, and every call keeps it so. A tick is then exactly one of
-// the written run; what the other calls do and answer needs no such premise.
+// The calls of a rehearsal. Every rehearsal is `Rehearsed`, by the facts in its type, and so a tick is exactly one of the
+// written run.
 ghost use Rattle.std.specs.Prelude.{◌≡◌, IfOk, MatchResult};
 ghost use Rattle.caption_box.specs.declared.types.Question.TheVariants.{Register};
 ghost use Rattle.caption_box.specs.WrittenCalls.{written_outcome, written_ticks, written_rewinds, written_corrects, written_asks};
@@ -31,19 +31,21 @@ impl<'a> Rehearsal<'a> {
         if !is_sheet(records) {
             return Err(Refusal::NoSheet);
         }
-        seat(NAMED, store, inputs).map(|()| Rehearsal {
+        let begun = Rehearsal {
             records,
             position: Position::default(),
             tallies: WrittenTallies::default(),
-        })
+        };
+        seat(NAMED, store, inputs).and(Ok(begun))
     }
 
     // Does up to k written steps; the answer says how many, and how the rehearsal then stands.
+    #[tactic(auto, using(crate::proofs::Told::rehearsed))]
     pub fn tick<S: Store>(&mut self, store: &mut S, k: u32) -> Result<Ticked, Refusal>
         ensures top { S.Store.limit store.new ≡ S.Store.limit store.old }
         ensures same { self.new.records ≡ self.old.records }
-        ensures kept { Rehearsed self.old → Rehearsed self.new }
-        ensures exact { Rehearsed self.old → written_outcome result (written_scene_on S.Store self.new store.new) ≡ written_ticks (written_scene_on S.Store self.old store.old) k }
+        ensures kept { Rehearsed self.new }
+        ensures exact { written_outcome result (written_scene_on S.Store self.new store.new) ≡ written_ticks (written_scene_on S.Store self.old store.old) k }
     {
         check_width(store, NAMED)?;
         check_tick(k, self.tallies.written)?;
@@ -51,9 +53,10 @@ impl<'a> Rehearsal<'a> {
     }
 
     // Puts the rehearsal to its beginning again.
+    #[tactic(auto, using(crate::proofs::Told::rehearsed))]
     pub fn rewind<S: Store>(&mut self, store: &mut S, inputs: &[u32]) -> Result<(), Refusal>
         ensures same { self.new.records ≡ self.old.records }
-        ensures kept { Rehearsed self.old → Rehearsed self.new }
+        ensures kept { Rehearsed self.new }
         ensures exact { written_outcome result (written_scene_on S.Store self.new store.new) ≡ written_rewinds (written_scene_on S.Store self.old store.old) inputs.now }
     {
         seat(NAMED, store, inputs)?;
@@ -63,6 +66,7 @@ impl<'a> Rehearsal<'a> {
     }
 
     // Writes one of x0 to x31 by hand.
+    #[tactic(auto, using(crate::proofs::Told::rehearsed))]
     pub fn correct<S: Store>(
         &mut self,
         store: &mut S,
@@ -70,7 +74,7 @@ impl<'a> Rehearsal<'a> {
         value: u32,
     ) -> Result<(), Refusal>
         ensures same { self.new ≡ self.old }
-        ensures kept { Rehearsed self.old → Rehearsed self.new }
+        ensures kept { Rehearsed self.new }
         ensures exact { written_outcome result (written_scene_on S.Store self.new store.new) ≡ written_corrects (written_scene_on S.Store self.old store.old) register value }
     {
         check_width(store, NAMED)?;

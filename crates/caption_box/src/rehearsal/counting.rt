@@ -14,8 +14,8 @@ pub(super) struct WrittenTallies {
 }
 
 impl WrittenTallies {
-    ghost use Rattle.caption_box.specs.WrittenSteps.{written_counted, Counted};
-    ghost use Rattle.caption_box.specs.Rehearsals.{written_counts, written_tally};
+    ghost use Rattle.caption_box.specs.WrittenSteps.{written_counts, written_counted, Counted};
+    ghost use Rattle.caption_box.specs.Rehearsals.{written_tally};
 
     // The tally that is asked for.
     pub(super) fn get(&self, tally: Tally) -> u128

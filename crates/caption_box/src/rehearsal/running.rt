@@ -3,7 +3,7 @@ ghost use Rattle.std.specs.Prelude.{◌≡◌, suc, ◌+◌, ◌<◌, ◌≤◌}
 ghost use Rattle.reader.specs.Steps.{many_done};
 ghost use Rattle.reader.specs.WrittenRun.{written_step, written_steps};
 ghost use Rattle.caption_box.specs.Calls.{state_of};
-ghost use Rattle.caption_box.specs.Rehearsals.{run_of, Rehearsed, Stepped, Gone};
+ghost use Rattle.caption_box.specs.Rehearsals.{run_of, Stepped, Gone};
 
 use super::Rehearsal;
 use super::stepping::{fate, perform};
@@ -14,7 +14,7 @@ use stores::store::Store;
 impl<'a> Rehearsal<'a> {
     // How the rehearsal stands on the store.
     fn look<S: Store>(&self, store: &S) -> State
-        ensures { Rehearsed self.now → result ≡ state_of (written_step (S.Store.limit store.now) (run_of self.now (S.Store.numbers store.now))) }
+        ensures { result ≡ state_of (written_step (S.Store.limit store.now) (run_of self.now (S.Store.numbers store.now))) }
     {
         fate(record_at(self.records, self.position.at), store)
     }
@@ -25,7 +25,7 @@ impl<'a> Rehearsal<'a> {
         ensures same { self.new.records ≡ self.old.records }
         ensures top { S.Store.limit store.new ≡ S.Store.limit store.old }
         ensures most { self.new.tallies.written ≤ suc self.old.tallies.written }
-        ensures exact { Rehearsed self.old → Stepped (S.Store.limit store.old) self.old (S.Store.numbers store.old) result self.new (S.Store.numbers store.new) }
+        ensures exact { Stepped (S.Store.limit store.old) self.old (S.Store.numbers store.old) result self.new (S.Store.numbers store.new) }
     {
         let statement = record_at(self.records, self.position.at);
         let state = fate(statement, store);
@@ -43,7 +43,7 @@ impl<'a> Rehearsal<'a> {
         requires { self.old.tallies.written + k ≤ 1099511627776 }
         ensures same { self.new.records ≡ self.old.records }
         ensures top { S.Store.limit store.new ≡ S.Store.limit store.old }
-        ensures exact { Rehearsed self.old → Gone (S.Store.limit store.old) k self.old (S.Store.numbers store.old) result self.new (S.Store.numbers store.new) }
+        ensures exact { Gone (S.Store.limit store.old) k self.old (S.Store.numbers store.old) result self.new (S.Store.numbers store.new) }
     {
         for steps in 0..k {
             let state = self.step(store);

@@ -1,16 +1,29 @@
-use Rattle.std.proofs.Common.{◌≡◌, Ok, Err, MatchResult, ap, rules}
-use Rattle.caption_box.specs.declared.rehearsal.Rehearsal.{Rehearsal}
-use Rattle.caption_box.specs.Calls.{seats}
-use Rattle.caption_box.specs.Rehearsals.{AtFirst}
-use Rattle.caption_box.proofs.Beginnings.{started_told}
+use Rattle.std.proofs.Common.{◌≡◌, [], rules}
+use Rattle.reader.specs.WrittenRun.{no_counts}
+use Rattle.caption_box.specs.Rests.{levels_of}
+use Rattle.caption_box.specs.WrittenSteps.{written_counts}
+use Rattle.caption_box.proofs.Beginnings.{first_stands, first_counted, started_same, started_told}
 use Rattle.caption_box.proofs.rehearsal.Rehearsal.start.Goals as goal
+
+pub invariant_of-begun : goal.invariant_of-begun
+invariant_of-begun g c =
+    let index : c.default.result.at ≡ 0 = search rules in
+    let levels : levels_of c.default.result ≡ [] = search rules in
+    let clear : written_counts c.default-2.result ≡ no_counts = search rules in
+    let sheet = c.is_sheet.ensures.0 c.if-not-is_sheet.false in
+    record {
+      sheet = ∣ sheet ∣₁;
+      stands = ∣ first_stands c.args.records.now c.default.result c.default-2.result index levels clear sheet ∣₁;
+      counted = first_counted c.args.records.now c.default.result c.default-2.result index levels clear;
+    }
+
+pub returns-clause-same : goal.returns-clause-same
+returns-clause-same g c = rw c.and.ensures (started_same _ c.seat.result)
 
 pub returns-clause-exact : goal.returns-clause-exact
 returns-clause-exact g c =
-    let ν = g.S.Store.numbers c.args.store.now in
-    let top = g.S.Store.limit c.args.store.now in
-    let told : MatchResult c.map.result (λ (s : Rehearsal). (s.records ≡ c.args.records) × AtFirst s × (seats 32 top ν c.args.inputs.now ≡ Ok tt))
-    (λ e. seats 32 top ν c.args.inputs.now ≡ Err e) = search rules in
-    started_told c.args.records.now top (g.S.Store.limit c.seat.new.store) ν
-    (g.S.Store.numbers c.seat.new.store) c.args.inputs.now c.map.result (λ (s : Rehearsal). s.records ≡ c.args.records) (λ s e. ap (λ r. r.now) e)
-    told c.seat.ensures.left.1 c.seat.ensures.left.0 (c.is_sheet.ensures.0 c.if-not-is_sheet.false)
+    rw c.and.ensures (
+    started_told _ (record { index = search rules; levels = search rules; clear = search rules }) (g.S.Store.limit c.args.store.now)
+    (g.S.Store.limit c.seat.new.store) (g.S.Store.numbers c.args.store.now)
+    (g.S.Store.numbers c.seat.new.store) c.args.inputs.now c.seat.result c.seat.ensures.answer c.seat.ensures.left.1 c.seat.ensures.left.0
+    )
