@@ -38,7 +38,8 @@ impl<'a> Rehearsal<'a> {
     }
 
     // Written steps until k are done or the next cannot be done. The loop is that of a show: one over closures would lend
-    // rehearsal and store to the step and to the look at once.
+    // rehearsal and store to the step and to the look at once, and a trait's would have to state what it does for both. That
+    // the tally stays small is asked in front of each step, since each adds to it.
     pub(super) fn go<S: Store>(&mut self, store: &mut S, k: u32) -> Ticked
         requires { self.old.tallies.written + k ≤ 1099511627776 }
         ensures same { self.new.records ≡ self.old.records }

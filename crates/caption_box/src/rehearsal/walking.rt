@@ -1,4 +1,5 @@
-// Where a rehearsal goes in its records. Nothing of a body is copied.
+// Where a rehearsal goes in its records. Nothing of a body is copied. The records are the rehearsal's, and each call is given
+// them.
 ghost use Rattle.std.specs.Prelude.{◌≡◌, ◌<◌};
 ghost use Rattle.reader.specs.Checks.{at as record_in, IsSheet};
 
@@ -6,7 +7,7 @@ use arrayvec::ArrayVec;
 use reader::next_sibling;
 use reader::types::{Kind, Placed, Statement, ZERO_RECORD};
 
-// Record i, and a zero record past the end.
+// Record i, and past the end a zero record, which is how a rehearsal has ended.
 pub(super) fn record_at(records: &[Placed<Statement>], i: usize) -> Statement
     ensures { result ≡ record_in records.now i }
 {

@@ -49,7 +49,7 @@ impl<'c> Show<'c> {
         state
     }
 
-    // Steps until k are done or the next cannot be done.
+    // Steps until k are done or the next cannot be done; a rehearsal's loop is alike, and says why both stay.
     pub(super) fn go<S: Store>(&mut self, store: &mut S, k: u32) -> Ticked
         requires { largest_of self.old.tallies + k ≤ 1099511627776 }
         ensures code { self.new.sealed ≡ self.old.sealed }
