@@ -15,7 +15,7 @@ use Rattle.caption_box.specs.Calls.{seats, seated}
 use Rattle.caption_box.specs.Rests.{Recs, levels_of, position_of, rest_in, rest_of, Stands}
 use Rattle.caption_box.specs.WrittenSteps.{written_counts, Counted}
 use Rattle.caption_box.specs.WrittenCalls.{WrittenScene, written_scene, WrittenOutcome, written_outcome, written_beginning, written_rewinds}
-use Rattle.caption_box.specs.Rehearsals.{AtFirst, records_of, whole_of, written_scene_of, WrittenStarted, WrittenUnstarted}
+use Rattle.caption_box.specs.Rehearsals.{records_of, whole_of, written_scene_of, WrittenStarted, WrittenUnstarted}
 use Rattle.caption_box.proofs.Levels.{begins}
 use Rattle.caption_box.proofs.Told.{rehearsed}
 use Rattle.caption_box.proofs.Seats.{seated_done, seated_kept}
@@ -75,13 +75,13 @@ module _ (rs : Recs) (p : Position) (t : WrittenTallies) (index : p.at ≡ 0) (l
         ap (written_outcome (Ok tt)) (begun ∙ sym (ap (λ (l : Recs). written_scene (whole_of l) top (written_beginning (whole_of l) xs ν)) same))
         ∙ sym (rewinds_done (written_scene_of s ν top) xs ok)
 
-rehearsal_started : (s : Rehearsal) → AtFirst s → (top top' : ℕ) (ν ν' xs : List ℕ) → seats 32 top ν xs ≡ Ok tt → ν' ≡ seated 32 top ν xs → top' ≡ top
+rehearsal_started : (s : Rehearsal) → s.position.at ≡ 0 → levels_of s.position ≡ [] → written_counts s.tallies ≡ no_counts → (top top' : ℕ) (ν ν' xs : List ℕ) → seats 32 top ν xs ≡ Ok tt → ν' ≡ seated 32 top ν xs → top' ≡ top
     → WrittenStarted (records_of s) top ν xs s (written_scene_of s ν' top')
-rehearsal_started s first top top' ν ν' xs ok en et =
+rehearsal_started s index levels clear top top' ν ν' xs ok en et =
     record {
       rehearsed = rehearsed s;
       seated = ok;
-      scene = λ g. begun (records_of s) s.position s.tallies first.index first.levels first.clear top top' ν ν' xs ok en et
+      scene = λ g. begun (records_of s) s.position s.tallies index levels clear top top' ν ν' xs ok en et
           ∙ ap (λ (p : Sheet). written_scene p top (written_beginning p xs ν)) (sheet_span (records_of s) g);
     }
 
@@ -101,8 +101,8 @@ pub started_same : (s : Rehearsal) (r : Result (Unit {0}) Refusal) → IfOk (res
 started_same s (Ok x) = refl
 started_same s (Err e) = tt
 
-pub started_told : (s : Rehearsal) → AtFirst s → (top top' : ℕ) (ν ν' xs : List ℕ) (r : Result (Unit {0}) Refusal)
+pub started_told : (s : Rehearsal) → s.position.at ≡ 0 → levels_of s.position ≡ [] → written_counts s.tallies ≡ no_counts → (top top' : ℕ) (ν ν' xs : List ℕ) (r : Result (Unit {0}) Refusal)
     → r ≡ seats 32 top ν xs → ν' ≡ seated 32 top ν xs → top' ≡ top
     → MatchResult (result_and r (Ok s)) (λ t. WrittenStarted (records_of s) top ν xs t (written_scene_of t ν' top')) (λ e. WrittenUnstarted (records_of s) top ν xs e ν')
-started_told s first top top' ν ν' xs (Ok x) er en et = rehearsal_started s first top top' ν ν' xs (sym er) en et
-started_told s first top top' ν ν' xs (Err e) er en et = rehearsal_unstarted top top' ν ν' xs e (sym er) en et (records_of s) (rehearsed s).sheet
+started_told s index levels clear top top' ν ν' xs (Ok x) er en et = rehearsal_started s index levels clear top top' ν ν' xs (sym er) en et
+started_told s index levels clear top top' ν ν' xs (Err e) er en et = rehearsal_unstarted top top' ν ν' xs e (sym er) en et (records_of s) (rehearsed s).sheet

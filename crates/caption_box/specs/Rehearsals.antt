@@ -1,11 +1,11 @@
 -- A rehearsal over the numbers of a store, as a scene; and what a start and a step of one come to.
-use Rattle.std.specs.Prelude.{◌≡◌, ℕ, ◌⊎◌, List, [], length, Ok, Err}
+use Rattle.std.specs.Prelude.{◌≡◌, ℕ, ◌⊎◌, List, length, Ok, Err}
 use Rattle.reader.specs.declared.types.Refusal.{Refusal}
 use Rattle.reader.specs.declared.types.Refusal.TheVariants.{NoSheet}
 use Rattle.reader.specs.Sheet.{Sheet}
 use Rattle.reader.specs.Checks.{IsSheet, span}
 use Rattle.reader.specs.Steps.{many_done}
-use Rattle.reader.specs.WrittenRun.{no_counts, WrittenRun, running, written_step, written_steps}
+use Rattle.reader.specs.WrittenRun.{WrittenRun, running, written_step, written_steps}
 use Rattle.stores.specs.declared.store.Store.{Ghosts}
 use Rattle.caption_box.specs.declared.types.State.{State}
 use Rattle.caption_box.specs.declared.types.Tally.{Tally}
@@ -14,7 +14,7 @@ use Rattle.caption_box.specs.declared.rehearsal.Rehearsal.{Rehearsal}
 use Rattle.caption_box.specs.declared.rehearsal.counting.WrittenTallies.{WrittenTallies}
 use Rattle.caption_box.specs.Calls.{state_of, onward, seats}
 use Rattle.caption_box.specs.Tallies.{tally}
-use Rattle.caption_box.specs.Rests.{Recs, levels_of, rest_of, Stands}
+use Rattle.caption_box.specs.Rests.{Recs, rest_of, Stands}
 use Rattle.caption_box.specs.WrittenSteps.{written_counts, Counted}
 use Rattle.caption_box.specs.WrittenCalls.{WrittenScene, written_scene, written_beginning}
 
@@ -41,12 +41,6 @@ written_scene_of s ν top = written_scene (whole_of (records_of s)) top (run_of 
 -- the same on a store, by what the stores of its type mean
 abbrev pub written_scene_on : {S : Type 0} → Ghosts S → Rehearsal → S → WrittenScene
 written_scene_on meaning s store = written_scene_of s (meaning.numbers store) (meaning.limit store)
-
--- before the first statement, with no open level and clear tallies
-pub record AtFirst (s : Rehearsal) : Type 0 where
-  pub index : s.position.at ≡ 0
-  pub levels : levels_of s.position ≡ []
-  pub clear : written_counts s.tallies ≡ no_counts
 
 -- what holds of every rehearsal, by the facts in its type (proofs/Told): the records are those of a sheet, the position stands in it, and the tallies are as bounded as the written steps
 pub record Rehearsed (s : Rehearsal) : Type 0 where

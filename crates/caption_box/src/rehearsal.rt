@@ -15,7 +15,8 @@ use walking::Position;
 // A rehearsal: a written run of the sheet of the records, which it borrows until it is put away. Its registers are in a
 // store that each call is given, as those of a show. That a call leaves the records as they are is a clause of its own, as
 // there. A tick goes by its facts: the records are those of a sheet, the position stands in it, and the tallies are as
-// bounded as the written steps.
+// bounded as the written steps. Two are truncated, as a ghost field may have one proof at most; proofs/Told has them
+// whole.
 #[derive(Drop)]
 pub struct Rehearsal<'a> {
     records: &'a [Placed<Statement>],

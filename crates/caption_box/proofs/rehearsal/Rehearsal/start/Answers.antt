@@ -23,7 +23,7 @@ returns-clause-same g c = rw c.and.ensures (started_same _ c.seat.result)
 pub returns-clause-exact : goal.returns-clause-exact
 returns-clause-exact g c =
     rw c.and.ensures (
-    started_told _ (record { index = search rules; levels = search rules; clear = search rules }) (g.S.Store.limit c.args.store.now)
+    started_told _ (search rules) (search rules) (search rules) (g.S.Store.limit c.args.store.now)
     (g.S.Store.limit c.seat.new.store) (g.S.Store.numbers c.args.store.now)
     (g.S.Store.numbers c.seat.new.store) c.args.inputs.now c.seat.result c.seat.ensures.answer c.seat.ensures.left.1 c.seat.ensures.left.0
     )
