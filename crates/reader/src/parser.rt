@@ -25,6 +25,7 @@ pub enum BlockKind {
     While,
 }
 
+// The same kind among all. No derive gives such a conversion.
 impl From<BlockKind> for Kind {
     ghost use Rattle.std.specs.Prelude.{◌≡◌};
     ghost use Rattle.reader.specs.Parsing.{kind_of};

@@ -43,7 +43,7 @@ impl Refusal {
     }
 }
 
-// The number of the refusal.
+// The number of the refusal, which no derive gives.
 impl From<Refusal> for u8 {
     ghost from_gives = { λ r n. n ≡ refusal_number r };
 

@@ -1,4 +1,4 @@
-// The plain data of the reader. It carries no clause, so that specs/ can name every type.
+// The plain data of the reader. What its types promise stands with their methods: in statement, lexeme and refusal.
 
 // A value with its place: the byte offset in the text where it begins.
 #[derive(Clone, Copy, Debug, PartialEq, Eq)]

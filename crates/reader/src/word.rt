@@ -19,8 +19,8 @@ fn begins_word(text: &[u8], place: usize) -> bool
     stands_alnum(text, place) && (place == 0 || !stands_alnum(text, place - 1))
 }
 
-// The word that begins at the place, as a part of the text; an empty one where none begins, which has a place of its own
-// too. Any place will do.
+// The word that begins at the place, as a part of the text; an empty one where none begins, which as published
+// has a place too. Any place will do.
 pub fn word_at<'a>(text: &'a [u8], place: usize) -> Word<'a>
     ensures { WordFound text.now place result }
 {

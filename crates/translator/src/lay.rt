@@ -55,6 +55,7 @@ fn lay_statement(flats: &[Placed<Flat>], at: usize, draft: &mut Draft) -> Result
             let jump = draft.test(statement.source, flat.role)?;
             match lay_round(flats, at + 1, statement.end, label, draft) {
                 Ok(()) => jump.close(draft)?,
+                // The open jump goes before the refusal does.
                 Err(refusal) => {
                     let _ = jump.strike(draft);
                     return Err(refusal);

@@ -10,7 +10,7 @@ use crate::types::{State, Ticked};
 use stores::store::Store;
 
 impl<'c> Show<'c> {
-    // How the show stands on the store.
+    // How the show stands on the store. A step asks this too, and then needs the instruction.
     fn look<S: Store>(&self, store: &S) -> State
         ensures { result ≡ state_of (step_of (setting_on S.Store self.now store.now) (box_on S.Store self.now store.now)) }
     {

@@ -1,4 +1,4 @@
-// One step of an operation over a store.
+// One step of an operation over a store. A rehearsal's step is one of a statement, and has a module of its own.
 ghost use Rattle.std.specs.Prelude.{◌≡◌, ℕ, suc, ◌^◌, ◌<◌, false};
 ghost use Rattle.caption_box.specs.declared.types.State.TheVariants.{Time};
 ghost use Rattle.caption_box.specs.Left.{Leaves};
