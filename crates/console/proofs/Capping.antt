@@ -1,8 +1,6 @@
 -- The number that digits write, up to a cap.
-use Rattle.std.proofs.Common.{◌≡◌, ℕ, ◌+◌, ◌-◌, ◌*◌, ◌<◌, ◌≤◌, min, Bool, true, false, ◌&&◌, eqb, List, [], ◌∷◌, length, get_or, drop, sym, ap, ◌∙◌, ⊎_elim, arith}
-use mathlib.Core.Bool.{false≢true}
-use Rattle.std.proofs.lemmas.List.{at_drop_more, at_drop_all}
-use Rattle.std.proofs.lemmas.Bool.{cases_lt, eqb-false}
+use Rattle.std.proofs.Common.{◌≡◌, ℕ, ◌+◌, ◌-◌, ◌*◌, ◌<◌, ◌≤◌, min, Bool, true, ◌&&◌, List, [], ◌∷◌, length, get_or, drop, sym, ap, ◌∙◌, arith}
+use Rattle.std.proofs.lemmas.List.{at_drop_more}
 use Rattle.std.specs.Char.{is_ascii_digit}
 use Rattle.std.specs.Str.{all_ascii_digits}
 use Rattle.reader.specs.Text.{read_on, value}
@@ -25,16 +23,3 @@ counted_more cap w i n m lt digit e h = (
   same_capped cap (drop (i + 1) w) m (10 * n + (get_or w i 0 - 48)) (omega (arith, e)) ∙ ap (λ (k : ℕ). min k cap) (sym (at_drop_more (read_on n) w i 0 lt)) ∙ h.1,
   omega (arith, e),
 )
-
-pub counted_none : (cap : ℕ) (w : List ℕ) (i n : ℕ) → i < length w → is_ascii_digit (get_or w i 0) ≡ false → Counted cap w i n → all_ascii_digits w ≡ true → ⊥
-counted_none cap w i n lt digit h all =
-    false≢true (sym (digits_more w i lt ∙ ap (λ (t : Bool). t && all_ascii_digits (drop (i + 1) w)) digit) ∙ h.0 ∙ all)
-
--- what a word of digits tells
-abbrev pub Told : ℕ → ℕ → List ℕ → Type 0
-Told cap n w = (0 < length w) × (all_ascii_digits w ≡ true) × (n ≡ min (value w) cap)
-
-pub counted_all : (cap : ℕ) (w : List ℕ) (i n : ℕ) → eqb (length w) 0 ≡ false → length w ≤ i → Counted cap w i n → Told cap n w
-counted_all cap w i n some le h =
-    let all : min (read_on n (drop i w)) cap ≡ min n cap = ap (λ (k : ℕ). min k cap) (at_drop_all (read_on n) w i le) in
-    (⊎_elim (λ (lt : 0 < length w). lt) (λ (none : length w ≤ 0). absurd (eqb-false (length w) 0 some (omega arith))) (cases_lt 0 (length w)), sym h.0 ∙ at_drop_all all_ascii_digits w i le, omega (arith, all, h.1, h.2))

@@ -1,3 +1,2 @@
 mod Composing
-mod Cutting
 mod Capping
