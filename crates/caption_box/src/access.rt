@@ -1,5 +1,6 @@
 // Reading and writing the numbers of any store.
 ghost use Rattle.std.specs.Prelude.{◌≡◌, ◌+◌, ◌≤◌, cond, nat_le, slice_index, slice_set};
+ghost use Rattle.stores.specs.Stores.{Sound};
 ghost use Rattle.caption_box.specs.Left.{Leaves};
 ghost use Rattle.caption_box.specs.declared.types.State.TheVariants.{Over, Time};
 
@@ -8,7 +9,8 @@ use stores::store::Store;
 
 // Number i, and 0 past the last.
 pub(crate) fn get<S: Store>(store: &S, i: usize) -> u32
-    ensures { result ≡ slice_index (S.Store.numbers store.now) i }
+    ensures sound { Sound (S.Store.numbers store.now) (S.Store.limit store.now) }
+    ensures got { result ≡ slice_index (S.Store.numbers store.now) i }
 {
     store.read(i).unwrap_or(0)
 }

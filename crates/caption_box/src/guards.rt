@@ -2,7 +2,7 @@
 // its tallies, and what else stands in them is which of these it asks, in the order of the table.
 ghost use Rattle.std.specs.Prelude.{◌≡◌, ◌+◌, cond, length, Ok, Err, nat_lt};
 ghost use Rattle.reader.specs.declared.types.Refusal.TheVariants.{NoRegister, SmallStore, LongTick, LongShow};
-ghost use Rattle.stores.specs.Stores.{read_of};
+ghost use Rattle.stores.specs.Stores.{Sound, read_of};
 
 use reader::types::Refusal;
 use stores::store::Store;
@@ -18,7 +18,8 @@ const LARGEST_TALLY: u64 = 1_099_511_627_776;
 
 // Refuses a store with fewer than n numbers.
 pub(crate) fn check_width<S: Store>(store: &S, n: usize) -> Result<(), Refusal>
-    ensures { result ≡ cond (nat_lt (length (S.Store.numbers store.now)) n) (Err SmallStore) (Ok tt) }
+    ensures sound { Sound (S.Store.numbers store.now) (S.Store.limit store.now) }
+    ensures answer { result ≡ cond (nat_lt (length (S.Store.numbers store.now)) n) (Err SmallStore) (Ok tt) }
 {
     if store.count() < n {
         Err(Refusal::SmallStore)

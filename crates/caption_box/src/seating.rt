@@ -1,5 +1,6 @@
 // The beginning of a run: inputs into the registers.
 ghost use Rattle.std.specs.Prelude.{◌≡◌, ◌≤◌, true, ◌++◌, length, drop};
+ghost use Rattle.stores.specs.Stores.{Sound};
 ghost use Rattle.caption_box.specs.Left.{Leaves};
 ghost use Rattle.caption_box.specs.Seats.{all_below, entered as entered_in, input_at};
 ghost use Rattle.caption_box.specs.Calls.{seats, seated};
@@ -39,6 +40,7 @@ fn fill<S: Store>(n: usize, store: &mut S, inputs: &[u32])
 
 // Puts a run that needs n registers to its beginning, unless the store or the inputs are refused.
 pub(crate) fn seat<S: Store>(n: usize, store: &mut S, inputs: &[u32]) -> Result<(), Refusal>
+    ensures sound { Sound (S.Store.numbers store.old) (S.Store.limit store.old) }
     ensures answer { result ≡ seats n (S.Store.limit store.old) (S.Store.numbers store.old) inputs.now }
     ensures left { Leaves S.Store store.old (seated n (S.Store.limit store.old) (S.Store.numbers store.old) inputs.now) store.new }
 {

@@ -3,7 +3,13 @@ use Rattle.std.proofs.Common.{◌≡◌, ℕ, ◌+◌, ◌-◌, ◌<◌, min, tr
 use lib.Seq.{take-set-lt, drop-set-add}
 use Rattle.std.proofs.lemmas.List.{get_or-take, get_or-drop}
 use Rattle.std.proofs.lemmas.Bool.{lt-ltb}
+use Rattle.stores.specs.Stores.{Sound}
 use Rattle.stores.specs.Windows.{seen, Stands}
+use Rattle.stores.proofs.Bounds.{sound_take, sound_drop}
+
+pub seen_sound : (ns : List ℕ) (limit base len : ℕ) → Sound ns limit → Sound (seen ns base len) limit
+unfolding seen
+seen_sound ns limit base len h = sound_take len (drop base ns) limit (sound_drop base ns limit h)
 
 pub seen-length : (ns : List ℕ) (base len : ℕ) → length (seen ns base len) ≡ min len (length ns - base)
 unfolding seen

@@ -113,8 +113,6 @@ impl<'a> Store for DecimalStore<'a> {
 
     ghost limit = { λ _. TOP };
 
-    ghost sound = { λ s. s.fits };
-
     fn count(&self) -> usize {
         count_in(self.bytes.len())
     }

@@ -55,14 +55,22 @@ impl<'a> FlatStore<'a> {
     {
         &self.cells[..counted(self.cells.len())]
     }
+
+    // Puts v at i.
+    fn put(&mut self, i: usize, v: u32)
+        requires { i < length (flats self.old.cells.now) }
+        ensures numbers { flats self.new.cells.now ≡ slice_set (flats self.old.cells.now) i v }
+        ensures rest { spare self.new.cells.now ≡ spare self.old.cells.now }
+        ensures lent { self.new.cells.ghost_name ≡ self.old.cells.ghost_name }
+    {
+        self.cells[i] = v;
+    }
 }
 
 impl<'a> Store for FlatStore<'a> {
     ghost numbers = { λ s. flats s.cells.now };
 
     ghost limit = { λ _. TOP };
-
-    ghost sound = { λ s. s.fits };
 
     fn count(&self) -> usize {
         self.numbers().len()
@@ -86,7 +94,7 @@ impl<'a> Store for FlatStore<'a> {
         if i >= self.count() {
             return Err(Refusal::NoRegister);
         }
-        self.cells[i] = v;
+        self.put(i, v);
         Ok(())
     }
 }

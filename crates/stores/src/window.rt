@@ -1,8 +1,8 @@
 // A store over part of another store. docs/STORES.md has the rules.
 ghost use Rattle.std.specs.Prelude.{◌≡◌, ◌-◌, ◌≤◌, min, length, MatchResult};
 ghost use Rattle.reader.specs.declared.types.Refusal.TheVariants.{NoRegister};
-ghost use Rattle.stores.specs.Stores.{write_of, written_of};
-ghost use Rattle.stores.specs.Windows.{seen, seen_sound, written_below, Stands};
+ghost use Rattle.stores.specs.Stores.{Sound, write_of, written_of};
+ghost use Rattle.stores.specs.Windows.{seen, written_below, Stands};
 
 use crate::store::Store;
 use reader::types::Refusal;
@@ -41,7 +41,8 @@ impl<'a, S: Store> Window<'a, S> {
 
     // Where number i of the window stands below.
     fn place(&self, i: usize) -> Result<usize, Refusal>
-        ensures { MatchResult result
+        ensures sound { Sound (seen (S.Store.numbers self.now.below.now) self.now.base self.now.len) (S.Store.limit self.now.below.now) }
+        ensures place { MatchResult result
             (λ at. Stands (S.Store.numbers self.now.below.now) (S.Store.limit self.now.below.now) self.now.base self.now.len i at)
             (λ e. (e ≡ NoRegister) × (length (seen (S.Store.numbers self.now.below.now) self.now.base self.now.len) ≤ i)) }
     {
@@ -57,8 +58,6 @@ impl<'a, S: Store> Store for Window<'a, S> {
     ghost numbers = { λ w. seen (S.Store.numbers w.below.now) w.base w.len };
 
     ghost limit = { λ w. S.Store.limit w.below.now };
-
-    ghost sound = { λ w. seen_sound _ _ w.base w.len (S.Store.sound w.below.now) };
 
     fn count(&self) -> usize {
         shown(self.below.count(), self.base, self.len)
