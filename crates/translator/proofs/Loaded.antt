@@ -41,7 +41,7 @@ pub record ReadSheet (text : List ℕ) (r n : ℕ) (m : List (Placed Statement))
   pub filled : m ≡ with_places places (records sheet) ++ cleared (r - size sheet)
 
 read_said : (text : List ℕ) (room : ℕ) (r : Result ℕ (Placed Refusal)) (m : List (Placed Statement)) → ReadAnswers text room r m
-    → MatchResult r (λ n. ReadSheet text room n m) (λ e. ReadAnswers text room (Err e) (cleared room))
+    → MatchResult r (λ n. ReadSheet text room n m) (λ e. ReadAnswers text room (Err e) (cleared room) × (m ≡ cleared room))
 read_said text room r m (accepted {ys = ys} {p = p} l s h) =
     record {
       sheet = p;
@@ -51,15 +51,15 @@ read_said text room r m (accepted {ys = ys} {p = p} l s h) =
       room = h;
       filled = refl;
     }
-read_said text room r m (overlong h) = overlong h
-read_said text room r m (faulty l h) = faulty l h
-read_said text room r m (tree_full l s h) = tree_full l s h
+read_said text room r m (overlong h) = (overlong h, refl)
+read_said text room r m (faulty l h) = (faulty l h, refl)
+read_said text room r m (tree_full l s h) = (tree_full l s h, refl)
 
 pub read_or_fault : (text : List ℕ) (room f : ℕ) (r : Result ℕ (Placed Refusal)) (m : List (Placed Statement)) (s : Result ℕ Fault) (F : Placed Refusal → Fault → Type 0) → ReadAnswers text room r m
     → MatchResult r (λ x. s ≡ Ok x) (λ e. IsErrAnd s (F e)) → ((e : Placed Refusal) (y : Fault) → F e y → y ≡ fault Read e)
-    → MatchResult s (λ n. ReadSheet text room n m) (λ y. (k : ℕ) → LoadRefuses text room f k y)
+    → MatchResult s (λ n. ReadSheet text room n m) (λ y. ((k : ℕ) → LoadRefuses text room f k y) × (y.stage ≡ Read → m ≡ cleared room))
 read_or_fault text room f r m s F a h g =
-    mapped _ _ _ _ r s F (read_said text room r m a) h (λ n x. x) (λ e y x k. λ c. subst (LoadRefuses text room f c) (sym (g e y k)) (unread x))
+    mapped _ _ _ _ r s F (read_said text room r m a) h (λ n x. x) (λ e y x k. ((λ c. subst (LoadRefuses text room f c) (sym (g e y k)) (unread x.0)), λ i. x.1))
 
 -- records at the front
 

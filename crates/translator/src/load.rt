@@ -2,6 +2,7 @@
 ghost use Rattle.std.specs.Prelude.{◌≡◌, ℕ, length, replicate, MatchResult};
 ghost use Rattle.reader.specs.Symbols.{placed};
 ghost use Rattle.reader.specs.Records.{cleared};
+ghost use Rattle.translator.specs.declared.types.Stage.TheVariants.{Read};
 ghost use Rattle.translator.specs.Drafts.{draft_memory, draft_lent, laid};
 ghost use Rattle.translator.specs.Seals.{sealed_lent};
 ghost use Rattle.translator.specs.Loading.{fault, cleared_flats, cleared_code, Prepared, SheetLaid, Loaded, LoadRefuses};
@@ -47,7 +48,8 @@ fn prepare(
 ) -> Result<usize, Fault>
     ensures { MatchResult result
         (λ n. Prepared text.now (length records.old) (length flats.old) n records.new flats.new)
-        (λ e. (c : ℕ) → LoadRefuses text.now (length records.old) (length flats.old) c e) }
+        (λ e. ((c : ℕ) → LoadRefuses text.now (length records.old) (length flats.old) c e)
+        × (e.stage ≡ Read → records.new ≡ cleared (length records.old))) }
 {
     let statements = read(text, records).map_err(|cause| Fault {
         stage: Stage::Read,
@@ -66,7 +68,8 @@ fn lay_sheet(
     requires { laid draft.old ≡ 0 }
     ensures laid { MatchResult result
         (λ _. SheetLaid text.now (length records.old) (length flats.old) records.new flats.new draft.old draft.new)
-        (λ e. LoadRefuses text.now (length records.old) (length flats.old) (length (draft_memory draft.old)) e) }
+        (λ e. LoadRefuses text.now (length records.old) (length flats.old) (length (draft_memory draft.old)) e
+        × (e.stage ≡ Read → records.new ≡ cleared (length records.old))) }
     ensures room { length (draft_memory draft.new) ≡ length (draft_memory draft.old) }
     ensures lent { draft_lent draft.new ≡ draft_lent draft.old }
 {
@@ -74,13 +77,14 @@ fn lay_sheet(
     lay_code(&flats[..count], draft).map_err(|item| unplaced(Stage::Lay, item))
 }
 
-// Refuses with a fault, and clears all three memories.
+// Refuses with a fault, and clears all three memories. A read that refuses has cleared the records already.
 fn give_up<'a>(
     fault: Fault,
     records: &mut [Placed<Statement>],
     flats: &mut [Placed<Flat>],
     draft: Draft<'a>,
 ) -> RefusedLoad<'a>
+    requires { fault.stage ≡ Read → records.old ≡ cleared (length records.old) }
     ensures fault { result.fault ≡ fault }
     ensures code { result.code.now ≡ cleared_code (length (draft_memory draft.entry)) }
     ensures lent { result.code.ghost_name ≡ draft_lent draft.entry }
@@ -90,7 +94,9 @@ fn give_up<'a>(
     let code = draft.give_back();
     clear(code, HALT);
     clear(flats, ZERO_FLAT);
-    clear(records, ZERO_RECORD);
+    if fault.stage != Stage::Read {
+        clear(records, ZERO_RECORD);
+    }
     RefusedLoad { fault, code }
 }
 

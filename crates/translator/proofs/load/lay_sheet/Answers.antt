@@ -23,6 +23,8 @@ returns-clause-laid c =
     mapped _ _ _ _ c.lay_code.result c.map_err.result _ c.lay_code.ensures.laid c.map_err.ensures.cases
     (λ x h. record { flats = n; prepared = w; coded = h w.sheet s })
     (λ e y h k.
-    let is : y ≡ fault Lay (placed 0 e) = search rules in
-    subst (LoadRefuses text r f (length (draft_memory c.args.draft.now))) (sym is)
-    (not-laid text r f n (length (draft_memory c.args.draft.now)) e c.prepare.new.records c.prepare.new.flats w h.0 (h.1 w.sheet s)))
+    let is : y ≡ fault Lay (placed 0 e) = search rules in (
+      subst (LoadRefuses text r f (length (draft_memory c.args.draft.now))) (sym is)
+          (not-laid text r f n (length (draft_memory c.args.draft.now)) e c.prepare.new.records c.prepare.new.flats w h.0 (h.1 w.sheet s)),
+      search rules,
+    ))

@@ -33,4 +33,4 @@ returns c =
     (λ k h. prepared text room n k m c.args.flats.now c.flatten.new.memory w (h w.sheet w.places s))
     (λ e y h k.
     let is : y ≡ fault Flatten (placed 0 e) = search rules in
-    λ c'. subst (LoadRefuses text room (length c.args.flats.now) c') (sym is) (not_flattened text room n (length c.args.flats.now) c' e m w h.0 (h.1 w.sheet w.places s)))
+    (λ c'. subst (LoadRefuses text room (length c.args.flats.now) c') (sym is) (not_flattened text room n (length c.args.flats.now) c' e m w h.0 (h.1 w.sheet w.places s)), search rules))
