@@ -1,10 +1,8 @@
 -- The check of records, each way.
-use Rattle.std.proofs.Common.{◌≡◌, ℕ, suc, ◌+◌, ◌<◌, ◌≤◌, max, cond, nat_eq, Bool, true, false, ◌⊎◌, List, [], ◌∷◌, ◌++◌, length, drop, Decides, sym, refl, ap, ◌∙◌, subst, inl, inr, ⊎_elim, add-one, arith, eqb-true, eq-eqb}
-use Rattle.std.specs.List.{count_by}
-use Rattle.std.proofs.lemmas.List.Recursion.{is_count_by}
+use Rattle.std.proofs.Common.{◌≡◌, ℕ, suc, ◌+◌, ◌<◌, ◌≤◌, max, nat_eq, Bool, true, false, ◌⊎◌, List, [], ◌∷◌, ◌++◌, length, drop, Decides, sym, refl, ap, ◌∙◌, subst, inl, inr, ⊎_elim, add-one, arith, eqb-true, eq-eqb}
 use Rattle.std.proofs.lemmas.List.{at_drop_more, at_drop_all}
 use Rattle.reader.specs.declared.types.Kind.{Kind}
-use Rattle.reader.specs.declared.types.Kind.TheVariants.{Zero, Plus, Minus, Loop, While}
+use Rattle.reader.specs.declared.types.Kind.TheVariants.{Plus, Minus, Loop, While}
 use Rattle.reader.specs.declared.types.Statement.{Statement}
 use Rattle.reader.specs.Sheet.{Sheet, done, plus, minus, loop, while, Some, Whole, Fit, depth, size, loops}
 use Rattle.reader.specs.Records.{statement_of, records_from, records, zero_record, kind_number}
@@ -217,14 +215,3 @@ sheet_loops rs h = omega (arith, loops_of rs h.sheet h.same, h.within.few_loops)
 pub sheet_body : (rs : Recs) → IsSheet rs → Body rs 0 (length rs) 0
 sheet_body rs h =
     record { sheet = h.sheet; spans = spans_all rs h.sheet h.same; whole = h.whole; fit = h.within.fit; shallow = omega (arith, h.within.shallow) }
-
--- The LOOPs of records are those that pass the test.
-pub counted_loops : (rs : Recs) (n : ℕ) → n ≡ count_by (λ r. nat_eq (loop_count r.item.kind) 1) rs → n ≡ loops_in rs
-counted_loops rs n e = e ∙ sym (is_count_by loops_in (λ r. nat_eq (loop_count r.item.kind) 1) refl (λ r rs. step r.item.kind (loops_in rs)) rs)
-  where
-    step : (k : Kind) (n : ℕ) → loop_count k + n ≡ cond (nat_eq (loop_count k) 1) (1 + n) n
-    step Zero n = omega arith
-    step Plus n = omega arith
-    step Minus n = omega arith
-    step Loop n = omega arith
-    step While n = omega arith
