@@ -39,8 +39,13 @@ pub fn depth(records: &[Placed<Statement>]) -> usize
     ensures most { Deepest records.now result }
     ensures of_sheet { DepthOfSheet records.now result }
 {
+    // The closure has a clause of its own, so that another body of it is refused here, and not where the maximum is proved.
     (0..records.len())
-        .map(|index| levels_around(records, index))
+        .map(
+            |index|
+                ensures { result ≡ blocks_around records.entry.now index }
+            { levels_around(records, index) },
+        )
         .max()
         .unwrap_or(0)
 }
