@@ -11,81 +11,117 @@ use stores::store::Store;
 // What runs: a show, a rehearsal, or both beside each other. The calls of the box are methods of each type, with contracts
 // of their own; here they only have one name.
 pub trait Performance {
-    fn tick<S: Store>(&mut self, stores: &mut Twins<S>, k: u32) -> Result<Ticked, Refusal>;
-
-    fn correct<S: Store>(
+    fn tick<S: Store, T: Store>(
         &mut self,
-        stores: &mut Twins<S>,
+        stores: &mut Twins<S, T>,
+        k: u32,
+    ) -> Result<Ticked, Refusal>;
+
+    fn correct<S: Store, T: Store>(
+        &mut self,
+        stores: &mut Twins<S, T>,
         register: usize,
         value: u32,
     ) -> Result<(), Refusal>;
 
-    fn rewind<S: Store>(&mut self, stores: &mut Twins<S>, inputs: &[u32]) -> Result<(), Refusal>;
+    fn rewind<S: Store, T: Store>(
+        &mut self,
+        stores: &mut Twins<S, T>,
+        inputs: &[u32],
+    ) -> Result<(), Refusal>;
 
-    fn ask<S: Store>(&self, stores: &Twins<S>, question: Question) -> Result<u128, Refusal>;
+    fn ask<S: Store, T: Store>(
+        &self,
+        stores: &Twins<S, T>,
+        question: Question,
+    ) -> Result<u128, Refusal>;
 
-    fn lines<S: Store>(&self, stores: &Twins<S>) -> Result<Lines, Refusal>;
+    fn lines<S: Store, T: Store>(&self, stores: &Twins<S, T>) -> Result<Lines, Refusal>;
 }
 
 impl Performance for Show<'_> {
-    fn tick<S: Store>(&mut self, stores: &mut Twins<S>, k: u32) -> Result<Ticked, Refusal> {
+    fn tick<S: Store, T: Store>(
+        &mut self,
+        stores: &mut Twins<S, T>,
+        k: u32,
+    ) -> Result<Ticked, Refusal> {
         Show::tick(self, &mut stores.first, k)
     }
 
-    fn correct<S: Store>(
+    fn correct<S: Store, T: Store>(
         &mut self,
-        stores: &mut Twins<S>,
+        stores: &mut Twins<S, T>,
         register: usize,
         value: u32,
     ) -> Result<(), Refusal> {
         Show::correct(self, &mut stores.first, register, value)
     }
 
-    fn rewind<S: Store>(&mut self, stores: &mut Twins<S>, inputs: &[u32]) -> Result<(), Refusal> {
+    fn rewind<S: Store, T: Store>(
+        &mut self,
+        stores: &mut Twins<S, T>,
+        inputs: &[u32],
+    ) -> Result<(), Refusal> {
         Show::rewind(self, &mut stores.first, inputs)
     }
 
-    fn ask<S: Store>(&self, stores: &Twins<S>, question: Question) -> Result<u128, Refusal> {
+    fn ask<S: Store, T: Store>(
+        &self,
+        stores: &Twins<S, T>,
+        question: Question,
+    ) -> Result<u128, Refusal> {
         Show::ask(self, &stores.first, question).map(u128::from)
     }
 
-    fn lines<S: Store>(&self, stores: &Twins<S>) -> Result<Lines, Refusal> {
+    fn lines<S: Store, T: Store>(&self, stores: &Twins<S, T>) -> Result<Lines, Refusal> {
         let line = Show::line(self, &stores.first)?;
         Ok(Lines::One(u128::from(line)))
     }
 }
 
 impl Performance for Rehearsal<'_> {
-    fn tick<S: Store>(&mut self, stores: &mut Twins<S>, k: u32) -> Result<Ticked, Refusal> {
+    fn tick<S: Store, T: Store>(
+        &mut self,
+        stores: &mut Twins<S, T>,
+        k: u32,
+    ) -> Result<Ticked, Refusal> {
         Rehearsal::tick(self, &mut stores.first, k)
     }
 
-    fn correct<S: Store>(
+    fn correct<S: Store, T: Store>(
         &mut self,
-        stores: &mut Twins<S>,
+        stores: &mut Twins<S, T>,
         register: usize,
         value: u32,
     ) -> Result<(), Refusal> {
         Rehearsal::correct(self, &mut stores.first, register, value)
     }
 
-    fn rewind<S: Store>(&mut self, stores: &mut Twins<S>, inputs: &[u32]) -> Result<(), Refusal> {
+    fn rewind<S: Store, T: Store>(
+        &mut self,
+        stores: &mut Twins<S, T>,
+        inputs: &[u32],
+    ) -> Result<(), Refusal> {
         Rehearsal::rewind(self, &mut stores.first, inputs)
     }
 
-    fn ask<S: Store>(&self, stores: &Twins<S>, question: Question) -> Result<u128, Refusal> {
+    fn ask<S: Store, T: Store>(
+        &self,
+        stores: &Twins<S, T>,
+        question: Question,
+    ) -> Result<u128, Refusal> {
         Rehearsal::ask(self, &stores.first, question)
     }
 
-    fn lines<S: Store>(&self, stores: &Twins<S>) -> Result<Lines, Refusal> {
+    fn lines<S: Store, T: Store>(&self, stores: &Twins<S, T>) -> Result<Lines, Refusal> {
         Rehearsal::line(self, &stores.first).map(Lines::One)
     }
 }
 
 // Makes a call, and answers it.
-pub fn make_call<P: Performance, S: Store>(
+pub fn make_call<P: Performance, S: Store, T: Store>(
     run: &mut P,
-    stores: &mut Twins<S>,
+    stores: &mut Twins<S, T>,
     call: &Call,
 ) -> Result<Answer, Refusal> {
     match call {
@@ -106,6 +142,9 @@ pub fn make_call<P: Performance, S: Store>(
 }
 
 // The answer to a call that gives nothing else.
-pub fn done<P: Performance, S: Store>(run: &P, stores: &Twins<S>) -> Result<Answer, Refusal> {
+pub fn done<P: Performance, S: Store, T: Store>(
+    run: &P,
+    stores: &Twins<S, T>,
+) -> Result<Answer, Refusal> {
     run.lines(stores).map(Answer::Done)
 }

@@ -20,16 +20,20 @@ pub struct Pair<'c> {
 
 // A call that the show refuses does not reach the rehearsal, and a question is the show's to answer.
 impl Performance for Pair<'_> {
-    fn tick<S: Store>(&mut self, stores: &mut Twins<S>, k: u32) -> Result<Ticked, Refusal> {
+    fn tick<S: Store, T: Store>(
+        &mut self,
+        stores: &mut Twins<S, T>,
+        k: u32,
+    ) -> Result<Ticked, Refusal> {
         let ticked = self.show.tick(&mut stores.first, k)?;
         let behind = self.behind(stores)?;
         self.rehearsal.tick(&mut stores.second, behind)?;
         Ok(ticked)
     }
 
-    fn correct<S: Store>(
+    fn correct<S: Store, T: Store>(
         &mut self,
-        stores: &mut Twins<S>,
+        stores: &mut Twins<S, T>,
         register: usize,
         value: u32,
     ) -> Result<(), Refusal> {
@@ -37,30 +41,38 @@ impl Performance for Pair<'_> {
         self.rehearsal.correct(&mut stores.second, register, value)
     }
 
-    fn rewind<S: Store>(&mut self, stores: &mut Twins<S>, inputs: &[u32]) -> Result<(), Refusal> {
+    fn rewind<S: Store, T: Store>(
+        &mut self,
+        stores: &mut Twins<S, T>,
+        inputs: &[u32],
+    ) -> Result<(), Refusal> {
         self.show.rewind(&mut stores.first, inputs)?;
         self.rehearsal.rewind(&mut stores.second, inputs)
     }
 
-    fn ask<S: Store>(&self, stores: &Twins<S>, question: Question) -> Result<u128, Refusal> {
+    fn ask<S: Store, T: Store>(
+        &self,
+        stores: &Twins<S, T>,
+        question: Question,
+    ) -> Result<u128, Refusal> {
         self.show.ask(&stores.first, question).map(u128::from)
     }
 
-    fn lines<S: Store>(&self, stores: &Twins<S>) -> Result<Lines, Refusal> {
+    fn lines<S: Store, T: Store>(&self, stores: &Twins<S, T>) -> Result<Lines, Refusal> {
         self.compare(stores).map(Lines::Both)
     }
 }
 
 impl Pair<'_> {
     // How many written steps the rehearsal is behind; after a tick of the show they are within one tick.
-    fn behind<S: Store>(&self, stores: &Twins<S>) -> Result<u32, Refusal> {
+    fn behind<S: Store, T: Store>(&self, stores: &Twins<S, T>) -> Result<u32, Refusal> {
         let goal = u128::from(self.show.ask(&stores.first, WRITTEN)?);
         let done = self.rehearsal.ask(&stores.second, WRITTEN)?;
         Ok(u32::try_from(goal.saturating_sub(done)).unwrap_or(u32::MAX))
     }
 
     // Whether x0 to x31 and the written steps of both are the same.
-    fn compare<S: Store>(&self, stores: &Twins<S>) -> Result<Comparison, Refusal> {
+    fn compare<S: Store, T: Store>(&self, stores: &Twins<S, T>) -> Result<Comparison, Refusal> {
         let mut agrees = self.is_same(stores, WRITTEN)?;
         for i in 0..32 {
             agrees &= self.is_same(stores, Question::Register(i))?;
@@ -73,8 +85,14 @@ impl Pair<'_> {
         })
     }
 
-    // Whether both give the same answer to a question.
-    fn is_same<S: Store>(&self, stores: &Twins<S>, question: Question) -> Result<bool, Refusal> {
+    // Whether both give the same answer to a question. Inlined, since `compare` knows which kind of question it asks; as a
+    // call of its own it makes a short tick take half as long again.
+    #[inline(always)]
+    fn is_same<S: Store, T: Store>(
+        &self,
+        stores: &Twins<S, T>,
+        question: Question,
+    ) -> Result<bool, Refusal> {
         let shown = u128::from(self.show.ask(&stores.first, question)?);
         Ok(shown == self.rehearsal.ask(&stores.second, question)?)
     }

@@ -90,7 +90,7 @@ impl<'p, 's, W: Write> Player<'p, 's, W> {
     fn play_on<'c, S: Store + Drop>(
         &mut self,
         desk: Desk<'c>,
-        mut stores: Twins<S>,
+        mut stores: Twins<S, S>,
     ) -> anyhow::Result<(Desk<'c>, Option<Make>)>
         ensures { IfOk result (λ p. Goes self.old.script.rest.now p.1 self.new.script.rest.now) }
     {
@@ -104,7 +104,7 @@ impl<'p, 's, W: Write> Player<'p, 's, W> {
     fn play<'c, S: Store>(
         &mut self,
         mut desk: Desk<'c>,
-        stores: &mut Twins<S>,
+        stores: &mut Twins<S, S>,
     ) -> anyhow::Result<(Desk<'c>, Option<Make>)>
         ensures { IfOk result (λ p. Goes self.old.script.rest.now p.1 self.new.script.rest.now) }
     {

@@ -7,6 +7,7 @@ use crate::view::View;
 use reader::limits::STATEMENTS;
 use reader::types::{Placed, Statement};
 use stores::store::Store;
+use stores::window::Window;
 
 // The run, the part of the store that its calls are given (there is none before a store is made), and memory for the
 // statements of the sheets to come.
@@ -31,7 +32,7 @@ impl<'c> Desk<'c> {
     }
 
     // Does what a line says on the stores, and answers it.
-    pub fn obey<S: Store>(self, stores: &mut Twins<S>, order: Order) -> (Desk<'c>, Reply) {
+    pub fn obey<S: Store>(self, stores: &mut Twins<S, S>, order: Order) -> (Desk<'c>, Reply) {
         let Desk {
             mut run,
             view,
@@ -62,36 +63,52 @@ pub fn room_for(text: &[u8]) -> usize {
 // Puts a window over the one that there is.
 fn narrow<S: Store>(
     view: Option<View>,
-    stores: &mut Twins<S>,
+    stores: &mut Twins<S, S>,
     upper: View,
 ) -> (Option<View>, Reply) {
     let Some(view) = view else {
         return (None, Err(NotDone::NoStore));
     };
     let view = view.narrowed(upper);
-    let windows = stores.windows(view);
-    (Some(view), Ok(Answer::of_store(&windows.first)))
+    let Twins { first, second } = stores.windows(view);
+    let answer = Answer::of_store(&first);
+    close_both(first, second);
+    (Some(view), Ok(answer))
 }
 
 fn start<'c, S: Store>(
     run: Run<'c>,
     view: Option<View>,
     kind: RunKind,
-    stores: &mut Twins<S>,
+    stores: &mut Twins<S, S>,
     inputs: &[u32],
 ) -> (Run<'c>, Reply) {
-    match view {
-        Some(view) => run.start(kind, &mut stores.windows(view), inputs),
-        None => (run, Err(NotDone::NoStore)),
-    }
+    let Some(view) = view else {
+        return (run, Err(NotDone::NoStore));
+    };
+    let mut windows = stores.windows(view);
+    let started = run.start(kind, &mut windows, inputs);
+    let Twins { first, second } = windows;
+    close_both(first, second);
+    started
 }
 
 fn pass_on<S: Store>(
     run: &mut Run<'_>,
     view: Option<View>,
-    stores: &mut Twins<S>,
+    stores: &mut Twins<S, S>,
     call: &Call,
 ) -> Reply {
     let view = view.ok_or(NotDone::NoRun)?;
-    run.call(&mut stores.windows(view), call)
+    let mut windows = stores.windows(view);
+    let reply = run.call(&mut windows, call);
+    let Twins { first, second } = windows;
+    close_both(first, second);
+    reply
+}
+
+// Lets both windows go. Each is a parameter of its own: the borrow checker does not cover taking both out of one yet.
+fn close_both<S: Store, T: Store>(first: Window<'_, S>, second: Window<'_, T>) {
+    first.close();
+    second.close();
 }

@@ -71,10 +71,10 @@ impl<'c> Run<'c> {
     }
 
     // Starts a run in the place of the one that there is, if any.
-    pub fn start<S: Store>(
+    pub fn start<S: Store, T: Store>(
         self,
         kind: RunKind,
-        stores: &mut Twins<S>,
+        stores: &mut Twins<S, T>,
         inputs: &[u32],
     ) -> (Run<'c>, Reply) {
         match self.put_away() {
@@ -88,7 +88,7 @@ impl<'c> Run<'c> {
     }
 
     // Passes a call on to what runs.
-    pub fn call<S: Store>(&mut self, stores: &mut Twins<S>, call: &Call) -> Reply {
+    pub fn call<S: Store, T: Store>(&mut self, stores: &mut Twins<S, T>, call: &Call) -> Reply {
         let answer = match self {
             Run::Bare(_) | Run::Loaded(_) => return Err(NotDone::NoRun),
             Run::Showing(show, _) => make_call(show, stores, call)?,
@@ -102,7 +102,11 @@ impl<'c> Run<'c> {
 impl<'c> Loaded<'c> {
     // The three begin alike. One function over what begins, with a closure that makes the run of it, was tried: the check
     // makes no proof of such a function.
-    fn start_show<S: Store>(self, stores: &mut Twins<S>, inputs: &[u32]) -> (Run<'c>, Reply) {
+    fn start_show<S: Store, T: Store>(
+        self,
+        stores: &mut Twins<S, T>,
+        inputs: &[u32],
+    ) -> (Run<'c>, Reply) {
         let Loaded { sealed, records } = self;
         match Show::start(sealed, &mut stores.first, inputs) {
             Ok(show) => {
@@ -119,7 +123,11 @@ impl<'c> Loaded<'c> {
         }
     }
 
-    fn start_rehearsal<S: Store>(self, stores: &mut Twins<S>, inputs: &[u32]) -> (Run<'c>, Reply) {
+    fn start_rehearsal<S: Store, T: Store>(
+        self,
+        stores: &mut Twins<S, T>,
+        inputs: &[u32],
+    ) -> (Run<'c>, Reply) {
         let Loaded { sealed, records } = self;
         match Rehearsal::start(records, &mut stores.first, inputs) {
             Ok(rehearsal) => {
@@ -134,7 +142,11 @@ impl<'c> Loaded<'c> {
     }
 
     // A show on the first store, and a rehearsal on the second.
-    fn start_both<S: Store>(self, stores: &mut Twins<S>, inputs: &[u32]) -> (Run<'c>, Reply) {
+    fn start_both<S: Store, T: Store>(
+        self,
+        stores: &mut Twins<S, T>,
+        inputs: &[u32],
+    ) -> (Run<'c>, Reply) {
         let (run, reply) = self.start_show(stores, inputs);
         let Run::Showing(show, records) = run else {
             return (run, reply);
