@@ -107,7 +107,8 @@ fn pass_on<S: Store>(
     reply
 }
 
-// Lets both windows go. Each is a parameter of its own: the borrow checker does not cover taking both out of one yet.
+// Lets both windows go. Each is a parameter of its own: the borrow checker does not cover yet that a parameter which holds
+// both is taken apart.
 fn close_both<S: Store, T: Store>(first: Window<'_, S>, second: Window<'_, T>) {
     first.close();
     second.close();
